@@ -1,0 +1,3 @@
+pub mod halves;
+pub mod laws;
+pub mod words;
