@@ -1,14 +1,13 @@
 -- The word of two halves: its length, its fronts, and what determines the halves.
 use mathlib.Core.Path.{_≡_, refl, sym, ap, _∙_}
-use mathlib.Core.Bool.{Bool, true, false}
-use mathlib.Core.List.{List, [], _∷_, _++_}
-use mathlib.Core.Logic.{_⊎_, inl, inr}
-use Prim.Native.Nat.{ℕ, _+_, _-_, _*_, _/_, _^_, _<_, _≤_}
+use mathlib.Core.Bool.{true, false}
+use mathlib.Core.List.{_++_}
+use Prim.Native.Nat.{ℕ, _+_, _-_, _^_, _<_, _≤_}
 use native.Mathlib.Omega.{arith}
 use lib.ListN.{length, take, drop, getD, replicate}
-use Rattle.std.proofs.shelf.Lists.{take-at, drop-at, take-append-le, take-append-drop, length-append, length-take-le, take-all, length-drop, take-take, ext-getD, drop-append-le, append-assoc}
+use Rattle.std.proofs.shelf.Lists.{take-at, drop-at, take-append-drop, length-append, length-take-le, take-all, length-drop, take-take, ext-getD, drop-append-le, append-assoc, drop-drop, drop-replicate, replicate-append-replicate}
 use Rattle.bits.specs.Bits.{Bits, covers}
-use Rattle.bits.specs.Halves.{digit, low-bits, word, front, clear, Aligned, Fit}
+use Rattle.bits.specs.Halves.{low-bits, word, front, clear, Aligned, Fit}
 use Rattle.bits.specs.declared.halves.Halves.{Halves}
 use Rattle.bits.proofs.LowBits.{low-length, low-injective}
 use Rattle.bits.proofs.Strings.{covers-take, clear-is, clear-zeros, clear-append}
@@ -106,3 +105,33 @@ masked-aligned n h r l e = word-aligned n r (take n (word h)) (ap length (sym (f
 pub masked-front : (n : ℕ) (h r : Halves) → n ≤ 128 → word r ≡ take n (word h) ++ replicate (128 - n) false → front n r ≡ front n h
 masked-front n h r l e =
     front-is n r ∙ ap (take n) e ∙ take-at (take n (word h)) _ n (ap length (sym (front-is n h)) ∙ front-length n h l) ∙ sym (front-is n h)
+
+-- nothing beyond n bits is nothing beyond more
+pub aligned-wider : (n w : ℕ) (h : Halves) → n ≤ w → Aligned n h → Aligned w h
+aligned-wider n w h l a =
+    let e : n + (w - n) ≡ w = omega arith in
+    let f : 128 - n - (w - n) ≡ 128 - w = omega arith in
+    ap (λ m. drop m (word h)) (sym e) ∙ sym (drop-drop (w - n) n (word h)) ∙ ap (drop (w - n)) a
+    ∙ drop-replicate (w - n) (128 - n) false ∙ ap (λ m. replicate m false) f
+
+-- of an address of w bits that is a prefix with zeros after: its front, and that nothing is beyond it
+pub start-front : (w : ℕ) (h : Halves) (p : Bits) → length p ≤ w → front w h ≡ p ++ replicate (w - length p) false → front (length p) h ≡ p
+start-front w h p l e = sym (front-front (length p) w h l) ∙ ap (take (length p)) e ∙ take-at p _ (length p) refl
+
+pub start-aligned : (w : ℕ) (h : Halves) (p : Bits) → length p ≤ w → w ≤ 128 → Aligned w h → front w h ≡ p ++ replicate (w - length p) false → Aligned (length p) h
+start-aligned w h p l k a e =
+    let f : w - length p + (128 - w) ≡ 128 - length p = omega arith in
+    word-aligned (length p) h p refl
+    (aligned-word w h a ∙ ap (λ (s : Bits). s ++ replicate (128 - w) false) e ∙ append-assoc p (replicate (w - length p) false) (replicate (128 - w) false)
+    ∙ ap (λ (s : Bits). p ++ s) (replicate-append-replicate (w - length p) (128 - w) false ∙ ap (λ m. replicate m false) f))
+
+-- a prefix covers an address where it covers its halves
+pub covers-halves : (p : Bits) (w : ℕ) (a : Halves) → length p ≤ w → covers p (front w a) ≡ covers p (word a)
+covers-halves p w a l = ap (covers p) (front-is w a) ∙ covers-take p (word a) w l
+
+-- the same of a prefix by the halves h of its address and its length n
+pub prefix-front : (w n : ℕ) (h s : Halves) (p : Bits) → h ≡ s → n ≡ length p → length p ≤ w → front w s ≡ p ++ replicate (w - length p) false → front n h ≡ p
+prefix-front w n h s p e f l d = ap (λ m. front m h) f ∙ ap (front (length p)) e ∙ start-front w s p l d
+
+pub covers-address : (w : ℕ) (p a : Bits) (h k : Halves) → h ≡ k → length p ≤ w → a ≡ front w k → covers p (word h) ≡ covers p a
+covers-address w p a h k e l f = ap (λ (m : Halves). covers p (word m)) e ∙ sym (covers-halves p w k l) ∙ ap (covers p) (sym f)

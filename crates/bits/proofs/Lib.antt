@@ -6,3 +6,4 @@ pub mod Orders
 pub mod Prefixes
 pub mod Primitives
 pub mod Strings
+pub mod Wide

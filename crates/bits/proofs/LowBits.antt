@@ -1,16 +1,14 @@
 -- The low bits of a number: their length, their parts, and the number back from them.
-use mathlib.Core.Path.{_≡_, refl, sym, ap, _∙_, subst}
-use mathlib.Core.Bool.{Bool, true, false, cond}
-use mathlib.Core.List.{List, [], _∷_, _++_}
-use mathlib.Core.Logic.{_⊎_, inl, inr}
+use mathlib.Core.Path.{_≡_, refl, sym, ap, _∙_}
+use mathlib.Core.Bool.{true, false}
+use mathlib.Core.List.{[], _∷_, _++_}
 use Prim.Native.Nat.{ℕ, zero, suc, _+_, _-_, _*_, _/_, _%_, _^_, _<_, _≤_}
-use native.Mathlib.Nat.{zero-add, suc-add, add-comm, mod-eq-of-lt, mod-mod, mul-mod-left, div-eq-of-lt, mod-lt, pow-suc}
+use native.Mathlib.Nat.{zero-add, suc-add, add-comm, mod-eq-of-lt, mul-mod-left, div-eq-of-lt, mod-lt, pow-suc}
 use native.Mathlib.Omega.{arith}
 use lib.Dec.{eqb}
 use lib.ListN.{length, take, drop, getD, replicate}
 use lib.Pow.{pow-pos, shr-shr, shl-shr, field, mod-mod-pow, mod-pow-add, low, high}
 use Rattle.std.proofs.shelf.Lists.{take-at, drop-at}
-use Rattle.std.proofs.shelf.Tests.{eqb-true, eqb-false, eq-eqb, ne-eqb, cases-eq}
 use Rattle.bits.specs.Bits.{Bits}
 use Rattle.bits.specs.Halves.{digit, low-bits}
 use Rattle.bits.specs.Laws.{number}

@@ -1,7 +1,7 @@
 -- The laws of a kind whose addresses are one number of w bits, at most 64.
-use mathlib.Core.Path.{_≡_, refl, sym, ap, _∙_}
-use mathlib.Core.Bool.{Bool, true, false}
-use mathlib.Core.List.{List, [], _∷_, _++_}
+use mathlib.Core.Path.{_≡_, sym, ap, _∙_, subst}
+use mathlib.Core.Bool.{true, false}
+use mathlib.Core.List.{_++_}
 use Prim.Native.Nat.{ℕ, _+_, _-_, _*_, _/_, _%_, _^_, _<_, _≤_}
 use native.Mathlib.Nat.{mod-lt, mod-eq-of-lt}
 use native.Mathlib.Omega.{arith}
@@ -15,7 +15,7 @@ use Rattle.bits.specs.Narrow.{lifted, lowered, opening}
 use Rattle.bits.specs.declared.halves.Halves.{Halves}
 use Rattle.bits.proofs.LowBits.{low-length, low-mod, low-zero, low-shifted, low-injective, number-bound, number-low}
 use Rattle.bits.proofs.Fronts.{word-is, front-is, word-aligned, front-injective}
-use Rattle.bits.proofs.Prefixes.{prefix-length, prefix-zeros, prefix-lengths, prefix-addresses, opening-length, opening-clear, opening-takes, opening-short}
+use Rattle.bits.proofs.Prefixes.{prefix-length, prefix-zeros, prefix-addresses, opening-length, opening-clear, opening-takes}
 use Rattle.bits.proofs.Primitives.{take-high}
 
 -- halves of an address
@@ -37,6 +37,13 @@ lifted-aligned w x l = word-aligned w (lifted w x) (low-bits w x) (low-length w 
 
 pub lifted-front : (w x : ℕ) → w ≤ 64 → front w (lifted w x) ≡ low-bits w x
 lifted-front w x l = front-is w (lifted w x) ∙ ap (take w) (lifted-word w x l) ∙ take-at (low-bits w x) _ w (low-length w x)
+
+-- the same of halves that are those of an address
+pub halves-aligned : (w : ℕ) (h : Halves) (x : ℕ) → w ≤ 64 → h ≡ lifted w x → Aligned w h
+halves-aligned w h x l e = subst (λ (k : Halves). Aligned w k) (sym e) (lifted-aligned w x l)
+
+pub halves-front : (w : ℕ) (h : Halves) (x : ℕ) → w ≤ 64 → h ≡ lifted w x → front w h ≡ low-bits w x
+halves-front w h x l e = ap (front w) e ∙ lifted-front w x l
 
 -- and back
 pub lowered-bound : (w : ℕ) (h : Halves) → lowered w h < 2 ^ w

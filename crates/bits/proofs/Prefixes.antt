@@ -1,14 +1,13 @@
 -- A prefix as the first n bits of an address with nothing set beyond them.
 use mathlib.Core.Path.{_≡_, refl, sym, ap, _∙_}
-use mathlib.Core.Bool.{Bool, true, false}
-use mathlib.Core.List.{List, [], _∷_, _++_}
-use Prim.Native.Nat.{ℕ, _+_, _-_, _^_, _<_, _≤_, min}
+use mathlib.Core.Bool.{true, false}
+use mathlib.Core.List.{_++_}
+use Prim.Native.Nat.{ℕ, _+_, _-_, _≤_, min}
 use native.Mathlib.Omega.{arith}
 use lib.ListN.{length, take, drop, replicate}
 use Rattle.std.proofs.shelf.Lists.{take-at, drop-at, take-all, take-append-drop, length-take, length-take-le, length-drop}
 use Rattle.bits.specs.Bits.{Bits}
 use Rattle.bits.specs.Halves.{clear}
-use Rattle.bits.specs.Laws.{padded}
 use Rattle.bits.specs.Narrow.{opening}
 use Rattle.bits.proofs.Addresses.{padded-length}
 use Rattle.bits.proofs.Strings.{clear-is, clear-zeros}

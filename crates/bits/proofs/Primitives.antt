@@ -1,7 +1,7 @@
 -- What the tests on halves say of the bit strings.
-use mathlib.Core.Path.{_≡_, refl, sym, ap, _∙_}
+use mathlib.Core.Path.{_≡_, sym, ap, _∙_}
 use mathlib.Core.Bool.{Bool, true, false, cond}
-use mathlib.Core.List.{List, [], _∷_, _++_}
+use mathlib.Core.List.{[], _∷_, _++_}
 use mathlib.Core.Logic.{_≢_, _⊎_, inl, inr}
 use Prim.Native.Nat.{ℕ, zero, suc, _+_, _-_, _*_, _/_, _%_, _^_, _<_, _≤_}
 use native.Mathlib.Nat.{div-eq-of-lt, div-eq-of-lt-le, pow-suc, add-zero}
@@ -10,13 +10,13 @@ use lib.Bits.{bitXor, xor-assoc, xor-self, xor-zero-l, xor-zero-r, xor-shr, xor-
 use lib.Count.{leadingZeros, leading-length, leading-of-zero}
 use lib.Dec.{eqb}
 use lib.ListN.{length, take, drop, getD, replicate}
-use lib.Pow.{pow-pos, shr-lt}
+use lib.Pow.{shr-lt}
 use Rattle.std.proofs.shelf.Lists.{take-at, drop-at, take-append-le, getD-append-left, getD-append-right, append-assoc, replicate-append-replicate, append-cancel-left, take-append-drop, append-nil, length-take-le}
 use Rattle.std.proofs.shelf.Tests.{eqb-true, eqb-false, eq-eqb, ne-eqb, cases-eq, cases-bool, both-ways}
-use Rattle.bits.specs.Bits.{Bits, Order, before, same, after, order, covers, common}
-use Rattle.bits.specs.Halves.{digit, low-bits, word, front, clear, Aligned, Fit}
+use Rattle.bits.specs.Bits.{Bits, before, same, after, order, covers, common}
+use Rattle.bits.specs.Halves.{digit, low-bits, word, front, clear}
 use Rattle.bits.specs.declared.halves.Halves.{Halves}
-use Rattle.bits.proofs.LowBits.{low-length, low-split, low-front, low-at, low-more, low-none, low-zero, low-shifted, low-injective}
+use Rattle.bits.proofs.LowBits.{low-length, low-split, low-front, low-at, low-more, low-zero, low-shifted, low-injective}
 use Rattle.bits.proofs.Strings.{covers-test, common-self, common-after, common-apart, order-shorter, order-longer, order-alike, order-parted}
 use Rattle.bits.proofs.Fronts.{word-is, word-length, clear-aligned, aligned-clear}
 
@@ -32,7 +32,7 @@ unfolding word
 bit-low h i l k =
     let e : 64 - 1 - (i - 64) ≡ 127 - i = omega arith in
     sym (getD-append-right (low-bits 64 (h .hi)) (low-bits 64 (h .lo)) 64 i false (low-length 64 (h .hi)) l
-      ∙ low-at 64 (h .lo) (i - 64) (omega arith) ∙ ap (digit (h .lo)) e)
+    ∙ low-at 64 (h .lo) (i - 64) (omega arith) ∙ ap (digit (h .lo)) e)
 
 -- two numbers whose difference in bits is none are equal
 pub xor-none : (u v : ℕ) → bitXor u v ≡ 0 → u ≡ v
@@ -79,6 +79,7 @@ common-high a b u v ha hb ne = go (leadingZeros 64 (bitXor a b)) (lead .0) (lead
   where
     lead : (m : ℕ) × (leadingZeros 64 (bitXor a b) + m ≡ 64) × (bitXor a b < 2 ^ m) × (2 ^ m ≤ 2 * bitXor a b + 1)
     lead = leading-length 64 (bitXor a b) (xor-lt 64 a b ha hb)
+
     go : (r m : ℕ) → r + m ≡ 64 → bitXor a b < 2 ^ m → 2 ^ m ≤ 2 * bitXor a b + 1
         → length (common (low-bits 64 a ++ u) (low-bits 64 b ++ v)) ≡ r
     go r zero e lt ge = absurd (ne (omega arith))
@@ -86,12 +87,16 @@ common-high a b u v ha hb ne = go (leadingZeros 64 (bitXor a b)) (lead .0) (lead
 
 -- the first bits that two numbers of 64 bits have in common
 pub common-number : (a b : ℕ) → a < 2 ^ 64 → b < 2 ^ 64 → length (common (low-bits 64 a) (low-bits 64 b)) ≡ leadingZeros 64 (bitXor a b)
-common-number a b ha hb = elim (cases-eq (bitXor a b) 0) [ inl e ↦ alike e | inr ne ↦
+common-number a b ha hb = elim (cases-eq (bitXor a b) 0) [
+  | inl e ↦ alike e
+  | inr ne ↦
       ap (λ (p : Bits). length (common p (low-bits 64 b))) (sym (nil a)) ∙ ap (λ (p : Bits). length (common (low-bits 64 a ++ []) p)) (sym (nil b))
-      ∙ common-high a b [] [] ha hb ne ]
+      ∙ common-high a b [] [] ha hb ne
+]
   where
     nil : (x : ℕ) → low-bits 64 x ++ [] ≡ low-bits 64 x
     nil x = append-nil (low-bits 64 x)
+
     alike : bitXor a b ≡ 0 → length (common (low-bits 64 a) (low-bits 64 b)) ≡ leadingZeros 64 (bitXor a b)
     alike e =
         ap (λ x. length (common (low-bits 64 a) (low-bits 64 x))) (sym (xor-none a b e))
@@ -107,9 +112,9 @@ unfolding word
 common-joined a b f g e =
     let p : a .hi ≡ b .hi = xor-none _ _ e in
     sym (ap (λ x. length (common (low-bits 64 x ++ low-bits 64 (a .lo)) (low-bits 64 (b .hi) ++ low-bits 64 (b .lo)))) p
-      ∙ common-after (low-bits 64 (b .hi)) (low-bits 64 (a .lo)) (low-bits 64 (b .lo))
-      ∙ ap (λ n. n + length (common (low-bits 64 (a .lo)) (low-bits 64 (b .lo)))) (low-length 64 (b .hi))
-      ∙ ap (λ n. 64 + n) (common-number (a .lo) (b .lo) f g))
+    ∙ common-after (low-bits 64 (b .hi)) (low-bits 64 (a .lo)) (low-bits 64 (b .lo))
+    ∙ ap (λ n. n + length (common (low-bits 64 (a .lo)) (low-bits 64 (b .lo)))) (low-length 64 (b .hi))
+    ∙ ap (λ n. 64 + n) (common-number (a .lo) (b .lo) f g))
 
 -- the first n bits of a word, of a half and a part
 pub take-high : (n : ℕ) (h : Halves) → n ≤ 64 → take n (word h) ≡ low-bits n (h .hi / 2 ^ (64 - n))
@@ -175,14 +180,17 @@ covers-high t n p a l f g says back = covers-test t (take n (word p)) (word a) (
   where
     m : ℕ
     m = 64 - n
+
     part : take n (word a) ≡ take (length (take n (word p))) (word a)
     part = front-part n p a (omega arith)
+
     there : t ≡ true → take n (word p) ≡ take n (word a)
     there e = take-high n p l ∙ ap (low-bits n) (xor-none _ _ (sym (xor-shr _ _ (64 - n)) ∙ says e)) ∙ sym (take-high n a l)
+
     from : take n (word p) ≡ take n (word a) → t ≡ true
     from e =
         back (xor-shr _ _ (64 - n) ∙ same-xor _ _ (low-injective n _ _ (shr-bound _ n (64 - n) (omega arith) f) (shr-bound _ n (64 - n) (omega arith) g)
-          (sym (take-high n p l) ∙ e ∙ take-high n a l)))
+        (sym (take-high n p l) ∙ e ∙ take-high n a l)))
 
 high-part : (n : ℕ) (h : Halves) → 64 ≤ n → n ≤ 128 → take 64 (take n (word h)) ≡ low-bits 64 (h .hi)
 high-part n h l k = ap (take 64) (take-low n h l k) ∙ take-at _ _ 64 (low-length 64 (h .hi))
@@ -200,10 +208,11 @@ covers-low t n p a l k alike f g says back = covers-test t (take n (word p)) (wo
     there e =
         take-low n p l k ∙ ap (λ x. low-bits 64 x ++ low-bits (n - 64) (p .lo / 2 ^ (128 - n))) alike
         ∙ ap (λ x. low-bits 64 (a .hi) ++ low-bits (n - 64) x) (xor-none _ _ (sym (xor-shr _ _ (128 - n)) ∙ says e)) ∙ sym (take-low n a l k)
+
     from : take n (word p) ≡ take n (word a) → t ≡ true
     from e =
         back (xor-shr _ _ (128 - n) ∙ same-xor _ _ (low-injective (n - 64) _ _ (shr-bound _ (n - 64) (128 - n) (omega arith) f)
-          (shr-bound _ (n - 64) (128 - n) (omega arith) g) (sym (low-part n p l k) ∙ ap (drop 64) e ∙ low-part n a l k)))
+        (shr-bound _ (n - 64) (128 - n) (omega arith) g) (sym (low-part n p l k) ∙ ap (drop 64) e ∙ low-part n a l k)))
 
 -- a long prefix covers nothing with another high half
 pub covers-apart : (t : Bool) (n : ℕ) (p a : Halves) → 64 ≤ n → n ≤ 128 → p .hi < 2 ^ 64 → a .hi < 2 ^ 64 → (t ≡ true → ⊥) → (p .hi ≡ a .hi → ⊥) → t ≡ covers (front n p) (word a)
@@ -219,6 +228,7 @@ aligned-test t n h m e says back = elim (cases-bool t) [ inl q ↦ q ∙ sym (fi
   where
     fine : word m ≡ word h → clear (drop n (word h)) ≡ true
     fine w = aligned-clear n h (append-cancel-left (take n (word h)) _ _ (take-append-drop n (word h) ∙ sym w ∙ e))
+
     miss : t ≡ false → (clear (drop n (word h)) ≡ true) ⊎ (clear (drop n (word h)) ≡ false) → clear (drop n (word h)) ≡ false
     miss q (inr c) = c
     miss q (inl c) = absurd (both-ways t q (back (e ∙ ap (λ (s : Bits). take n (word h) ++ s) (sym (clear-aligned n h c)) ∙ take-append-drop n (word h))))

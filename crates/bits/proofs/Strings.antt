@@ -1,7 +1,7 @@
 -- Bit strings: what a prefix covers, what two have in common, and how their fronts are ordered.
-use mathlib.Core.Path.{_≡_, refl, sym, ap, _∙_, subst}
+use mathlib.Core.Path.{_≡_, refl, sym, ap, _∙_}
 use mathlib.Core.Bool.{Bool, true, false, cond}
-use mathlib.Core.List.{List, [], _∷_, _++_}
+use mathlib.Core.List.{[], _∷_, _++_}
 use mathlib.Core.Logic.{_≢_, _⊎_, inl, inr}
 use Prim.Native.Nat.{ℕ, zero, suc, _+_, _-_, _<_, _≤_}
 use native.Mathlib.Nat.{zero-add, suc-add}
@@ -9,7 +9,7 @@ use native.Mathlib.Omega.{arith}
 use lib.ListN.{length, take, drop, getD, replicate}
 use Rattle.std.proofs.shelf.Lists.{take-append-drop}
 use Rattle.std.proofs.shelf.Tests.{cases-bool, both-ways}
-use Rattle.bits.specs.Bits.{Bits, Order, before, same, after, order, covers, common}
+use Rattle.bits.specs.Bits.{Bits, before, same, after, order, covers, common}
 use Rattle.bits.specs.Halves.{clear}
 use Rattle.bits.proofs.Orders.{order-self, flip-before}
 

@@ -1,9 +1,8 @@
 -- Addresses of w bits, at most 64, that are one number: where their bits stand in the halves.
-use mathlib.Core.Bool.{Bool}
 use Prim.Native.Nat.{ℕ, _-_, _*_, _/_, _%_, _^_}
-use lib.ListN.{take, drop}
+use lib.ListN.{take}
 use Rattle.bits.specs.Bits.{Bits}
-use Rattle.bits.specs.Laws.{number, padded}
+use Rattle.bits.specs.Laws.{padded}
 use Rattle.bits.specs.declared.halves.Halves.{Halves}
 
 -- the w bits of x at the top of the high half

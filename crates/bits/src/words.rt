@@ -1,7 +1,7 @@
 ghost use mathlib.Core.Path.{_≡_};
 ghost use mathlib.Core.Bool.{false};
 ghost use mathlib.Core.List.{_++_};
-ghost use Prim.Native.Nat.{ℕ, _-_, _*_, _/_, _^_, _<_, _≤_};
+ghost use Prim.Native.Nat.{_-_, _*_, _/_, _^_, _<_, _≤_};
 ghost use lib.ListN.{length, getD, take, drop, replicate};
 ghost use Rattle.bits.specs.Bits.{covers, common, order};
 ghost use Rattle.bits.specs.Halves.{word, front, clear, stands};
@@ -51,9 +51,15 @@ pub fn masked(h: Halves, n: u8) -> Halves
     ensures { λ r. ⌜ word r ≡ take n (word h) ++ replicate (128 - n) false ⌝ }
 {
     if n < 64 {
-        Halves { hi: kept(h.hi, n), lo: 0 }
+        Halves {
+            hi: kept(h.hi, n),
+            lo: 0,
+        }
     } else {
-        Halves { hi: h.hi, lo: kept(h.lo, n - 64) }
+        Halves {
+            hi: h.hi,
+            lo: kept(h.lo, n - 64),
+        }
     }
 }
 
@@ -77,7 +83,11 @@ pub fn order(a: Halves, n: u8, b: Halves, m: u8) -> Ordering
 {
     let both = common_len(a, b);
     if both < n && both < m {
-        if bit_at(a, both) { Ordering::Greater } else { Ordering::Less }
+        if bit_at(a, both) {
+            Ordering::Greater
+        } else {
+            Ordering::Less
+        }
     } else if n < m {
         Ordering::Less
     } else if n == m {

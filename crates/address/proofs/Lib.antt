@@ -1,0 +1,3 @@
+pub mod Checked
+pub mod Same4
+pub mod Same6

@@ -1,0 +1,43 @@
+use lib.Dec.{lit≤}
+use Prim.Native.Nat.{_≤_}
+use native.Mathlib.Omega.{arith}
+use mathlib.Core.Path.{_≡_, sym}
+use lib.ListN.{length, take}
+use Rattle.bits.specs.Halves.{low-bits}
+use Rattle.bits.proofs.LowBits.{low-length}
+use Rattle.bits.proofs.Narrow.{lifted-fit, lifted-aligned, lifted-front, lowered-lifted, lifted-lowered, narrow-length, narrow-zeros, narrow-lengths, narrow-addresses, narrow-made}
+use Rattle.kind48.proofs.Same48.{same-address, same-prefix}
+use Rattle.kind48.proofs.mac.address.Mac48Address.the-impl.Needs as need
+
+pub whole-law : need.whole-law
+whole-law a = low-length 48 (a .bits)
+
+pub fits-law : need.fits-law
+fits-law a = (lifted-fit 48 (a .bits) (lit≤ tt) (a .small), lifted-aligned 48 (a .bits) (lit≤ tt))
+
+pub reads-law : need.reads-law
+reads-law a = sym (lifted-front 48 (a .bits) (lit≤ tt))
+
+pub back-law : need.back-law
+back-law a = same-address _ a (lowered-lifted 48 (a .bits) (a .small))
+
+pub forth-law : need.forth-law
+forth-law h f a = lifted-lowered 48 h (lit≤ tt) f a
+
+pub short-law : need.short-law
+short-law p =
+    let e : length (take (p .len) (low-bits 48 (p .address .bits))) ≡ p .len = narrow-length 48 (p .address .bits) (p .len) (p .within) in
+    let h : p .len ≤ 48 = p .within in
+    omega arith
+
+pub opens-law : need.opens-law
+opens-law p = narrow-zeros 48 (p .address .bits) (p .len) (p .within) (p .zeros)
+
+pub every-law : need.every-law
+every-law q h = narrow-made 48 q h
+
+pub one-law : need.one-law
+one-law p q e =
+    same-prefix p q
+    (same-address _ _ (narrow-addresses 48 _ _ _ _ (p .address .small) (q .address .small) (p .within) (q .within) (p .zeros) (q .zeros) e))
+    (narrow-lengths 48 (p .address .bits) (q .address .bits) _ _ (p .within) (q .within) e)

@@ -1,0 +1,12 @@
+pub mod Maps
+pub mod Longest
+pub mod Views
+pub mod Room
+pub mod Machine
+pub mod Slots
+pub mod Stack
+pub mod Since
+pub mod Logs
+pub mod Laws
+pub mod Promise
+pub mod Tables
