@@ -113,6 +113,13 @@ impl<'a, A: Address> Sorted<'a, A> {
     }
 }
 
+// How many of so many borrowed rows are used at most.
+fn room_in(rows: usize) -> usize
+    ensures { λ r. ⌜ r ≡ usable rows ⌝ }
+{
+    rows.min(MOST)
+}
+
 // Whether the list has the plane.
 fn has_plane(plane: u16) -> bool
     ensures { λ r. ⌜ r ≡ eqb plane 0 ⌝ }
@@ -157,7 +164,7 @@ pub impl<'a, A: Address> Table for Sorted<'a, A> as SortedTable {
             hop: hop.to_halves(),
         };
         let used = self.used;
-        let room = self.rows.len().min(MOST);
+        let room = room_in(self.rows.len());
         match insert(self.rows, used, room, row) {
             Some(used) => {
                 self.used = used;

@@ -35,7 +35,7 @@ returns-in-Some g c =
     let hop : front (g .A·Address .width) (c .to-halves .result) ≡ g .A·Address .bits h = ap (front (g .A·Address .width)) (c .to-halves .ensures) ∙ sym (g .A·Address·met .reads h) in
     let ok = row-made _ row _ _ _ (g .A·Address·met .sized .1) (c .first .ensures) (c .len .ensures) (c .to-halves .ensures) (g .A·Address·met .short p) start (g .A·Address·met .fits _) (g .A·Address·met .fits h) in
     let put : Inserted (was .used) (usable (length (was .rows .now))) row (was .rows .now) (c .insert .last .rows) (Some (c .in-Some .used)) =
-    subst (λ (n : ℕ). Inserted (was .used) n row (was .rows .now) (c .insert .last .rows) (Some (c .in-Some .used))) (c .min-room .ensures) (c .in-Some .ensures tt) in
+    subst (λ (n : ℕ). Inserted (was .used) n row (was .rows .now) (c .insert .last .rows) (Some (c .in-Some .used))) (c .room-in-room .ensures) (c .in-Some .ensures tt) in
     record {
       valid = inserted-good _ _ _ (c .pre) row _ _ long ok put;
       does = single-does (λ s. routes (g .A·Address .width) (s .used) (s .rows .now)) (λ s. rows-room (length (s .rows .now))) _ _ _ _ (ap rows-room long)
@@ -54,7 +54,7 @@ returns-in-None g c =
     let key = starts _ _ _ _ _ (c .first .ensures) (c .len .ensures) (g .A·Address·met .short p) start in
     let hop : front (g .A·Address .width) (c .to-halves .result) ≡ g .A·Address .bits h = ap (front (g .A·Address .width)) (c .to-halves .ensures) ∙ sym (g .A·Address·met .reads h) in
     let kept : Inserted (was .used) (usable (length (was .rows .now))) row (was .rows .now) (c .insert .last .rows) None =
-    subst (λ (n : ℕ). Inserted (was .used) n row (was .rows .now) (c .insert .last .rows) None) (c .min-room .ensures) (c .in-None .ensures tt) in
+    subst (λ (n : ℕ). Inserted (was .used) n row (was .rows .now) (c .insert .last .rows) None) (c .room-in-room .ensures) (c .in-None .ensures tt) in
     record {
       valid = subst (λ (rows : List Row). Well-formed (g .A·Address .width) (was .used) rows) (sym same) (c .pre);
       does = single-does (λ s. routes (g .A·Address .width) (s .used) (s .rows .now)) (λ s. rows-room (length (s .rows .now))) _ _ _ _ (ap (λ (rows : List Row). rows-room (length rows)) same)
