@@ -10,12 +10,13 @@ use Rattle.address.specs.declared.ipv4.Ipv4.{Ipv4}
 use Rattle.address.specs.declared.ipv4.Prefix4.{Prefix4}
 
 pub same-address : (a b : Ipv4) → a .bits ≡ b .bits → a ≡ b
-same-address a b e = λ i. record { bits = e i; small = isProp→PathP (λ j. e j < 2 ^ 32) (λ j. le-prop) (a .small) (b .small) i }
+same-address a b e = λ i. record { bits = e i }
 
 pub same-prefix : (p q : Prefix4) → p .address ≡ q .address → p .len ≡ q .len → p ≡ q
 same-prefix p q e f = λ i. record {
   address = e i;
   len = f i;
+  small = isProp→PathP (λ j. e j .bits < 2 ^ 32) (λ j. le-prop) (p .small) (q .small) i;
   within = isProp→PathP (λ j. f j ≤ 32) (λ j. le-prop) (p .within) (q .within) i;
   zeros = isProp→PathP (λ j. clear (drop (f j) (low-bits 32 (e j .bits))) ≡ true) (λ j. Bool-set _ _) (p .zeros) (q .zeros) i;
 }

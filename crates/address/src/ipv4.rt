@@ -11,7 +11,6 @@ pub mod text;
 #[derive(Clone, Copy, PartialEq, Eq, Debug)]
 pub struct Ipv4 {
     bits: u32,
-    ghost small: { bits < 2 ^ 32 },
 }
 
 // A prefix of 32-bit addresses: nothing is set beyond its length.
@@ -19,6 +18,7 @@ pub struct Ipv4 {
 pub struct Prefix4 {
     address: Ipv4,
     len: u8,
+    ghost small: { address .bits < 2 ^ 32 },
     ghost within: { len ≤ 32 },
     ghost zeros: { clear (drop len (low-bits 32 (address .bits))) ≡ true },
 }

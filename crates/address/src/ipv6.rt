@@ -13,8 +13,6 @@ pub mod text;
 pub struct Ipv6 {
     hi: u64,
     lo: u64,
-    ghost high: { hi < 2 ^ 64 },
-    ghost low: { lo < 2 ^ 64 },
 }
 
 // A prefix of 128-bit addresses: nothing is set beyond its length.
@@ -22,6 +20,8 @@ pub struct Ipv6 {
 pub struct Prefix6 {
     address: Ipv6,
     len: u8,
+    ghost high: { address .hi < 2 ^ 64 },
+    ghost low: { address .lo < 2 ^ 64 },
     ghost within: { len ≤ 128 },
     ghost zeros: { clear (drop len (paired (address .hi) (address .lo))) ≡ true },
 }

@@ -23,6 +23,9 @@ pub trait Address: Copy {
     // a prefix's own bits, as many as its length
     ghost pbits: { Self·Prefix → Bits };
 
+    // the numbers fit their types, as those of every value in a program do
+    ghost real: { Self → Type 0 };
+
     // the bits in two halves, with zeros after
     ghost halves: { Self → Halves };
 
@@ -42,7 +45,9 @@ pub trait Address: Copy {
 
     law reads: { (a : Self) → bits a ≡ front width (halves a) };
 
-    law back: { (a : Self) → joined (halves a) ≡ a };
+    law back: { (a : Self) → real a → joined (halves a) ≡ a };
+
+    law lives: { (h : Halves) → real (joined h) };
 
     law forth: { (h : Halves) → Fit h → Aligned width h → halves (joined h) ≡ h };
 

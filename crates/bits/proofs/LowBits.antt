@@ -69,6 +69,9 @@ unfolding low-bits
 low-mod-of zero m x h = refl
 low-mod-of (suc n) m x h = ap (λ b. b ∷ low-bits n (x % 2 ^ m)) (digit-mod x m n h) ∙ ap (λ (p : Bits). digit x n ∷ p) (low-mod-of n m x (omega arith))
 
+pub rest-bound : (w x : ℕ) → x % 2 ^ w < 2 ^ w
+rest-bound w x = mod-lt x {m = 2 ^ w} (pow-pos w)
+
 -- only the low bits count
 pub low-mod : (n x : ℕ) → low-bits n (x % 2 ^ n) ≡ low-bits n x
 low-mod n x = low-mod-of n n x (omega arith)

@@ -3,7 +3,7 @@ use mathlib.Core.Path.{_≡_, sym, ap, _∙_, subst}
 use mathlib.Core.Bool.{true, false}
 use mathlib.Core.List.{_++_}
 use Prim.Native.Nat.{ℕ, _+_, _-_, _*_, _/_, _%_, _^_, _<_, _≤_}
-use native.Mathlib.Nat.{mod-lt, mod-eq-of-lt}
+use native.Mathlib.Nat.{mod-eq-of-lt}
 use native.Mathlib.Omega.{arith}
 use lib.ListN.{length, take, drop, replicate}
 use lib.Pow.{pow-pos, shl-lt, shl-shr, shr-lt}
@@ -13,21 +13,21 @@ use Rattle.bits.specs.Halves.{low-bits, word, front, clear, Aligned, Fit}
 use Rattle.bits.specs.Laws.{number}
 use Rattle.bits.specs.Narrow.{lifted, lowered, opening}
 use Rattle.bits.specs.declared.halves.Halves.{Halves}
-use Rattle.bits.proofs.LowBits.{low-length, low-mod, low-zero, low-shifted, low-injective, number-bound, number-low}
+use Rattle.bits.proofs.LowBits.{low-length, rest-bound, low-mod, low-zero, low-shifted, low-injective, number-bound, number-low}
 use Rattle.bits.proofs.Fronts.{word-is, front-is, word-aligned, front-injective}
 use Rattle.bits.proofs.Prefixes.{prefix-length, prefix-zeros, prefix-addresses, opening-length, opening-clear, opening-takes}
 use Rattle.bits.proofs.Primitives.{take-high}
 
 -- halves of an address
-pub lifted-fit : (w x : ℕ) → w ≤ 64 → x < 2 ^ w → Fit (lifted w x)
-lifted-fit w x l h =
+pub lifted-fit : (w x : ℕ) → w ≤ 64 → Fit (lifted w x)
+lifted-fit w x l =
     let e : w + (64 - w) ≡ 64 = omega arith in
-    (let b : x * 2 ^ (64 - w) < 2 ^ (w + (64 - w)) = shl-lt w (64 - w) h in rw e at b, pow-pos 64)
+    (let b : x % 2 ^ w * 2 ^ (64 - w) < 2 ^ (w + (64 - w)) = shl-lt w (64 - w) (rest-bound w x) in rw e at b, pow-pos 64)
 
 pub lifted-word : (w x : ℕ) → w ≤ 64 → word (lifted w x) ≡ low-bits w x ++ replicate (128 - w) false
 lifted-word w x l =
     let e : 64 - w + 64 ≡ 128 - w = omega arith in
-    word-is (lifted w x) ∙ ap (λ (s : Bits). s ++ low-bits 64 0) (low-shifted w 64 x l)
+    word-is (lifted w x) ∙ ap (λ (s : Bits). s ++ low-bits 64 0) (low-shifted w 64 (x % 2 ^ w) l ∙ ap (λ (s : Bits). s ++ replicate (64 - w) false) (low-mod w x))
     ∙ append-assoc (low-bits w x) (replicate (64 - w) false) (low-bits 64 0)
     ∙ ap (λ (s : Bits). low-bits w x ++ (replicate (64 - w) false ++ s)) (low-zero 64)
     ∙ ap (λ (s : Bits). low-bits w x ++ s) (replicate-append-replicate (64 - w) 64 false ∙ ap (λ m. replicate m false) e)
@@ -47,14 +47,17 @@ halves-front w h x l e = ap (front w) e ∙ lifted-front w x l
 
 -- and back
 pub lowered-bound : (w : ℕ) (h : Halves) → lowered w h < 2 ^ w
-lowered-bound w h = mod-lt (h .hi / 2 ^ (64 - w)) {m = 2 ^ w} (pow-pos w)
+lowered-bound w h = rest-bound w (h .hi / 2 ^ (64 - w))
 
-pub lowered-lifted : (w x : ℕ) → x < 2 ^ w → lowered w (lifted w x) ≡ x
-lowered-lifted w x h = ap (λ n. n % 2 ^ w) (shl-shr x (64 - w)) ∙ mod-eq-of-lt h
+pub lowered-lifted : (w x : ℕ) → lowered w (lifted w x) ≡ x % 2 ^ w
+lowered-lifted w x = ap (λ n. n % 2 ^ w) (shl-shr (x % 2 ^ w) (64 - w)) ∙ mod-eq-of-lt (rest-bound w x)
+
+pub lowered-back : (w x : ℕ) → x < 2 ^ w → lowered w (lifted w x) ≡ x
+lowered-back w x h = lowered-lifted w x ∙ mod-eq-of-lt h
 
 pub lifted-lowered : (w : ℕ) (h : Halves) → w ≤ 64 → Fit h → Aligned w h → lifted w (lowered w h) ≡ h
 lifted-lowered w h l f a =
-    front-injective w (lifted w (lowered w h)) h (lifted-fit w (lowered w h) l (lowered-bound w h)) f (lifted-aligned w (lowered w h) l) a
+    front-injective w (lifted w (lowered w h)) h (lifted-fit w (lowered w h) l) f (lifted-aligned w (lowered w h) l) a
     (lifted-front w (lowered w h) l ∙ low-mod w (h .hi / 2 ^ (64 - w)) ∙ sym (take-high w h l) ∙ sym (front-is w h))
 
 -- the number of the bits at the top, where they are no more than the number has

@@ -3,10 +3,8 @@ use mathlib.Core.Path.{_≡_, sym, ap, _∙_}
 use mathlib.Core.Bool.{true, false}
 use mathlib.Core.List.{_++_}
 use Prim.Native.Nat.{ℕ, _+_, _-_, _%_, _^_, _<_, _≤_}
-use native.Mathlib.Nat.{mod-lt}
 use native.Mathlib.Omega.{arith}
 use lib.ListN.{length, take, drop, replicate}
-use lib.Pow.{pow-pos}
 use Rattle.std.proofs.shelf.Lists.{drop-all, take-append-drop, length-take-le, length-drop}
 use Rattle.bits.specs.Bits.{Bits}
 use Rattle.bits.specs.Halves.{low-bits, word, front, clear, Aligned, Fit}
@@ -14,7 +12,7 @@ use Rattle.bits.specs.Laws.{number}
 use Rattle.bits.specs.Narrow.{opening}
 use Rattle.bits.specs.Wide.{paired, opening-high, opening-low}
 use Rattle.bits.specs.declared.halves.Halves.{Halves}
-use Rattle.bits.proofs.LowBits.{number-bound, number-low}
+use Rattle.bits.proofs.LowBits.{low-mod, number-bound, number-low}
 use Rattle.bits.proofs.Fronts.{word-is, word-length, word-injective, front-whole}
 use Rattle.bits.proofs.Prefixes.{prefix-length, prefix-zeros, prefix-addresses, opening-length, opening-clear, opening-takes}
 
@@ -28,8 +26,10 @@ paired-front h = front-whole h ∙ word-is h
 pub aligned-whole : (h : Halves) → Aligned 128 h
 aligned-whole h = drop-all 128 (word h) (let e : length (word h) ≡ 128 = word-length h in omega arith)
 
-pub rest-bound : (x : ℕ) → x % 2 ^ 64 < 2 ^ 64
-rest-bound x = mod-lt x {m = 2 ^ 64} (pow-pos 64)
+-- of each number only the low 64 bits count
+pub paired-rest : (hi lo : ℕ) → paired (hi % 2 ^ 64) (lo % 2 ^ 64) ≡ paired hi lo
+paired-rest hi lo =
+    ap (λ (s : Bits). s ++ low-bits 64 (lo % 2 ^ 64)) (low-mod 64 hi) ∙ ap (λ (s : Bits). low-bits 64 hi ++ s) (low-mod 64 lo)
 
 -- a prefix of n bits at the address of two numbers
 pub wide-length : (hi lo n : ℕ) → n ≤ 128 → length (take n (paired hi lo)) ≡ n

@@ -5,9 +5,9 @@ use Rattle.bits.specs.Bits.{Bits}
 use Rattle.bits.specs.Laws.{padded}
 use Rattle.bits.specs.declared.halves.Halves.{Halves}
 
--- the w bits of x at the top of the high half
+-- the low w bits of x at the top of the high half
 abbrev pub lifted : ℕ → ℕ → Halves
-lifted w x = record { hi = x * 2 ^ (64 - w); lo = 0 }
+lifted w x = record { hi = x % 2 ^ w * 2 ^ (64 - w); lo = 0 }
 
 -- the number that stands in the top w bits of the high half
 abbrev pub lowered : ℕ → Halves → ℕ

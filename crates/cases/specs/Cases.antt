@@ -73,26 +73,26 @@ abbrev pub worked : List Worked
 worked =
     -- two /16 side by side take three nodes: a pool of three holds them, one of two does not
     (calls (trie 3) (on 0 (announce (net 10 0 16) A) ∷ (on 0 (announce (net 10 1 16) A) ∷ []))
-      ⇒ replied (done ∷ (done ∷ [])) (3 ∷ [])) ∷
+    ⇒ replied (done ∷ (done ∷ [])) (3 ∷ [])) ∷
     ((calls (trie 2) (on 0 (announce (net 10 0 16) A) ∷ (on 0 (announce (net 10 1 16) A) ∷ []))
-      ⇒ replied (done ∷ (refused 15 ∷ [])) (1 ∷ [])) ∷
+    ⇒ replied (done ∷ (refused 15 ∷ [])) (1 ∷ [])) ∷
     -- a /8 over a /16 takes two
     ((calls (trie 2) (on 0 (announce (net 10 0 8) A) ∷ (on 0 (announce (net 10 1 16) A) ∷ []))
-      ⇒ replied (done ∷ (done ∷ [])) (2 ∷ [])) ∷
+    ⇒ replied (done ∷ (done ∷ [])) (2 ∷ [])) ∷
     -- a /8 over both its halves takes three, and three still without the /8
     ((calls (trie 3) (on 0 (announce (net 10 0 8) A) ∷ (on 0 (announce (net 10 0 9) A) ∷ (on 0 (announce (net 10 128 9) A) ∷ [])))
-      ⇒ replied (done ∷ (done ∷ (done ∷ []))) (3 ∷ [])) ∷
+    ⇒ replied (done ∷ (done ∷ (done ∷ []))) (3 ∷ [])) ∷
     ((calls (trie 3) (on 0 (announce (net 10 0 8) A) ∷ (on 0 (announce (net 10 0 9) A) ∷ (on 0 (announce (net 10 128 9) A) ∷ (on 0 (withdraw (net 10 0 8)) ∷ []))))
-      ⇒ replied (done ∷ (done ∷ (done ∷ (done ∷ [])))) (3 ∷ [])) ∷
+    ⇒ replied (done ∷ (done ∷ (done ∷ (done ∷ [])))) (3 ∷ [])) ∷
     -- fall-through: the upper /8 hides the lower /16; at bound 4 the lower default shows; without the /8 the /16 does
     ((calls (fall (trie 512) (sorted 512))
-        (on 0 (announce (net 10 0 8) A) ∷ (on 1 (announce (net 10 1 16) B) ∷ (on 1 (announce (net 0 0 0) C) ∷
-        (lookup (dotted 10 1 2 3) 32 ∷ (lookup (dotted 10 1 2 3) 4 ∷ (on 0 (withdraw (net 10 0 8)) ∷ (lookup (dotted 10 1 2 3) 32 ∷ [])))))))
-      ⇒ replied (done ∷ (done ∷ (done ∷ (found (Some (8, A)) ∷ (found (Some (0, C)) ∷ (done ∷ (found (Some (16, B)) ∷ []))))))) (0 ∷ (2 ∷ []))) ∷
+    (on 0 (announce (net 10 0 8) A) ∷ (on 1 (announce (net 10 1 16) B) ∷ (on 1 (announce (net 0 0 0) C) ∷
+    (lookup (dotted 10 1 2 3) 32 ∷ (lookup (dotted 10 1 2 3) 4 ∷ (on 0 (withdraw (net 10 0 8)) ∷ (lookup (dotted 10 1 2 3) 32 ∷ [])))))))
+    ⇒ replied (done ∷ (done ∷ (done ∷ (found (Some (8, A)) ∷ (found (Some (0, C)) ∷ (done ∷ (found (Some (16, B)) ∷ []))))))) (0 ∷ (2 ∷ []))) ∷
     -- a filter goes on below a denied route
     ((calls (filter no-long-tens (sorted 512))
-        (on 0 (announce (net 10 0 8) A) ∷ (on 0 (announce (net 10 1 16) B) ∷ (lookup (dotted 10 1 2 3) 32 ∷ (lookup (dotted 10 1 2 3) 33 ∷ []))))
-      ⇒ replied (done ∷ (done ∷ (found (Some (8, A)) ∷ (refused 12 ∷ [])))) (2 ∷ [])) ∷
+    (on 0 (announce (net 10 0 8) A) ∷ (on 0 (announce (net 10 1 16) B) ∷ (lookup (dotted 10 1 2 3) 32 ∷ (lookup (dotted 10 1 2 3) 33 ∷ []))))
+    ⇒ replied (done ∷ (done ∷ (found (Some (8, A)) ∷ (refused 12 ∷ [])))) (2 ∷ [])) ∷
     -- length 32 is taken, 33 is too long; 10.0.0.1/8 has a bit beyond its length
     ((prefix (dotted 10 0 0 1) 32 ⇒ made (Ok (dotted 10 0 0 1))) ∷
     ((prefix (dotted 10 0 0 0) 33 ⇒ made (Err 12)) ∷

@@ -7,11 +7,13 @@ ghost use Rattle.bits.specs.Halves.{clear, low-bits};
 
 pub mod address;
 
+// How many addresses of 48 bits there are.
+const ADDRESSES: u64 = 1 << 48;
+
 // An address of 48 bits.
 #[derive(Clone, Copy, PartialEq, Eq, Debug)]
 pub struct Mac48 {
     bits: u64,
-    ghost small: { bits < 2 ^ 48 },
 }
 
 // A prefix of 48-bit addresses: nothing is set beyond its length.
@@ -19,6 +21,7 @@ pub struct Mac48 {
 pub struct Prefix48 {
     address: Mac48,
     len: u8,
+    ghost small: { address .bits < 2 ^ 48 },
     ghost within: { len ≤ 48 },
     ghost zeros: { clear (drop len (low-bits 48 (address .bits))) ≡ true },
 }
@@ -28,7 +31,7 @@ impl Mac48 {
     pub fn new(bits: u64) -> Option<Mac48>
         ensures { λ r. ⌜ Cases r (2 ^ 48 ≤ bits) (λ a. (a .bits ≡ bits) × (bits < 2 ^ 48)) ⌝ }
     {
-        if bits < 281474976710656 {
+        if bits < ADDRESSES {
             Some(Mac48 { bits })
         } else {
             None

@@ -1,6 +1,6 @@
 -- A policy filter, by the table below it. Assumes nothing.
 use mathlib.Core.Path.{_≡_, refl, sym, ap, _∙_}
-use mathlib.Core.List.{List, [], _∷_, _++_, append-nil}
+use mathlib.Core.List.{List, [], _∷_, _++_, append-nil, append-assoc}
 use mathlib.Core.Bool.{Bool, true, false, cond}
 use Prim.Native.Nat.{ℕ, zero, suc, _≤_, _<_}
 use native.Mathlib.Omega.{arith}
@@ -8,16 +8,19 @@ use lib.Dec.{leb}
 use lib.ListN.{length, take}
 use Rattle.std.specs.declared.option.Option.{Option}
 use Rattle.std.specs.declared.option.Option.the-variants.{Some, None}
+use Rattle.std.proofs.shelf.Lists.{length-take}
 use Rattle.std.proofs.shelf.Tests.{le-leb}
-use Rattle.bits.specs.Bits.{Bits}
+use Rattle.bits.specs.Bits.{Bits, covers}
 use Rattle.model.specs.Maps.{Visible}
 use Rattle.model.specs.Longest.{or-else, at-length, answer}
 use Rattle.model.specs.Views.{Rule, permits, filtered}
 use Rattle.model.specs.Machine.{Plane, Target, Answer, View, Room, Act, Call, on, lookup, Reply, found, refused, reply-of}
 use Rattle.model.specs.Stack.{Stack, filter, filter-view, past, asked-again, after, Described}
 use Rattle.model.specs.Laws.{Local}
-use Rattle.model.proofs.StackLaws.{after-nil}
+use Rattle.model.proofs.Coverings.{covering-short}
+use Rattle.model.proofs.StackLaws.{after-nil, after-append}
 use Rattle.model.proofs.Steps.{At, Step, Described-at}
+use Rattle.model.proofs.Lookups.{found-answer}
 
 -- ---- locality
 
@@ -177,3 +180,74 @@ pub record Asked (q : List Rule) (s t : At) (a : Bits) (b n : ℕ) : Type 0 wher
   pub entries : t .stack ≡ after (s .stack) sent
   pub to-come : lookup a b ∷ asked-again q (s .view (s .planes)) a b ≡ sent ++ (lookup a n ∷ asked-again q (s .view (s .planes)) a n)
   pub same-answer : answer (filtered q (s .view (s .planes))) a b ≡ answer (filtered q (s .view (s .planes))) a n
+
+-- ---- what a rule matches
+
+-- a prefix is not at or beneath a longer one
+pub covers-long : (p a : Bits) (n : ℕ) → n < length p → covers p (take n a) ≡ false
+covers-long p a n h = go (covers p (take n a)) refl
+  where
+    go : (z : Bool) → covers p (take n a) ≡ z → z ≡ false
+    go true e = absurd (omega (arith, covering-short p (take n a) e, length-take n a))
+    go false e = refl
+
+-- ---- a lookup, one question below after the other
+
+-- nothing is asked yet
+pub asked-none : (q : List Rule) (s : At) (a : Bits) (b : ℕ) → Asked q s s a b b
+asked-none q s a b = record {
+  within = omega arith;
+  same-planes = refl;
+  same-view = refl;
+  same-room = refl;
+  sent = [];
+  entries = sym (after-nil (s .stack));
+  to-come = refl;
+  same-answer = refl;
+}
+
+module _ (q : List Rule) (s t w : At) (a : Bits) (b n : ℕ) (k : Asked q s t a b n) where
+  -- the answer from below is that of the map below
+  asked-answer : (x : Answer) → Step t w (lookup a n) (found x) → x ≡ answer (s .view (s .planes)) a n
+  asked-answer x f = found-answer t w a n x f ∙ rw (k .same-view, k .same-planes) refl
+
+  -- and no longer than the bound
+  pub asked-within : (m : ℕ) (h : Target) → Step t w (lookup a n) (found (Some (m, h))) → m ≤ n
+  asked-within m h f = answer-within (s .view (s .planes)) a n m h (sym (asked-answer (Some (m, h)) f))
+
+  sent-more : {y : Reply} → Step t w (lookup a n) y → w .stack ≡ after (s .stack) (k .sent ++ (lookup a n ∷ []))
+  sent-more f = f .entries ∙ ap (λ d. after d (lookup a n ∷ [])) (k .entries) ∙ sym (after-append (s .stack) (k .sent) (lookup a n ∷ []))
+
+  -- a denied route: one question more, below it
+  pub asked-more : (m : ℕ) (h : Target) → permits q (take (suc m) a) ≡ false → Step t w (lookup a n) (found (Some (suc m, h))) → Asked q s w a b m
+  asked-more m h deny f =
+      let e = asked-answer (Some (suc m, h)) f in
+      let c : asked-again q (s .view (s .planes)) a n ≡ lookup a m ∷ asked-again q (s .view (s .planes)) a m = asks-rest q (s .view (s .planes)) a n ∙ rw (← e, deny) refl in
+      let v : answer (filtered q (s .view (s .planes))) a n ≡ answer (filtered q (s .view (s .planes))) a m = shows-answer q (s .view (s .planes)) a n ∙ rw (← e, deny) refl in
+      let l = asked-within (suc m) h f in
+      record {
+        within = omega (arith, k .within);
+        same-planes = f .planes-after ∙ k .same-planes;
+        same-view = f .same-view ∙ k .same-view;
+        same-room = f .same-room ∙ k .same-room;
+        sent = k .sent ++ (lookup a n ∷ []);
+        entries = sent-more f;
+        to-come = k .to-come ∙ ap (λ r. k .sent ++ (lookup a n ∷ r)) c ∙ sym (append-assoc (k .sent) (lookup a n ∷ []) (lookup a m ∷ asked-again q (s .view (s .planes)) a m));
+        same-answer = k .same-answer ∙ v;
+      }
+
+  -- no question more: what the last answer comes to is the answer of the whole lookup
+  pub asked-all : (x y : Answer) → b ≤ length a → rest q (s .view (s .planes)) a x ≡ [] → shows q (s .view (s .planes)) a x ≡ y → Described-at s → Step t w (lookup a n) (found x) → Step (screened q s) (screened q w) (lookup a b) (found y)
+  asked-all x y h stop shown d f =
+      let e = asked-answer x f in
+      let z : leb b (length a) ≡ true = le-leb b (length a) h in
+      let c : asked-again q (s .view (s .planes)) a n ≡ [] = asks-rest q (s .view (s .planes)) a n ∙ rw (← e) stop in
+      let v : answer (filtered q (s .view (s .planes))) a b ≡ y = k .same-answer ∙ shows-answer q (s .view (s .planes)) a n ∙ rw (← e) shown in
+      let all : k .sent ++ (lookup a n ∷ []) ≡ lookup a b ∷ asked-again q (s .view (s .planes)) a b = sym (k .to-come ∙ ap (λ r. k .sent ++ (lookup a n ∷ r)) c) in
+      record {
+        reply = rw (z, v) refl;
+        planes-after = f .planes-after ∙ k .same-planes;
+        same-view = ap (filter-view q) (f .same-view ∙ k .same-view);
+        same-room = f .same-room ∙ k .same-room;
+        entries = ap (filter q) (sent-more f ∙ ap (after (s .stack)) all ∙ rw (d .view, d .planes, z, append-nil (asked-again q (s .view (s .planes)) a b)) refl);
+      }

@@ -17,3 +17,7 @@ pub mod OnePlane
 pub mod Steps
 pub mod FallLaws
 pub mod FilterLaws
+pub mod Lookups
+pub mod AddressBits
+pub mod CacheLaws
+pub mod OneRoute

@@ -78,9 +78,9 @@ impl<'a, A: Address> Sorted<'a, A> {
         if i >= self.used {
             return None;
         }
-        let row = self.rows[i];
-        let hop = A::from_halves(row.hop);
-        match A::from_halves(row.prefix).prefix(row.len) {
+        let held = self.rows[i];
+        let hop = A::from_halves(held.hop);
+        match A::from_halves(held.prefix).prefix(held.len) {
             Ok(prefix) => Some((prefix, hop)),
             Err(_) => unreachable(),
         }

@@ -29,9 +29,13 @@ pub trait Table {
 
     // laws, which each implementation proves
     ghost described: { (s : Self) → Described (stack s) (planes s) (view s) (room s) };
+
     ghost local: { (s : Self) → Local (view s) };
+
     ghost roomy: { (s : Self) (i : ℕ) → Room-law (room s i) };
+
     ghost sound: { (s : Self) → valid s → Sound (room s) (planes s) };
+
     ghost current: { (s : Self) → valid s → Current (stack s) };
 
     // The number of planes.
@@ -40,28 +44,45 @@ pub trait Table {
         ensures { λ r. ⌜ r ≡ length (planes (now (self .entry))) ⌝ };
 
     // Puts the prefix with this hop into the plane, in the place of an older hop.
-    fn announce(&mut self, plane: u16, prefix: <Self::Addr as Address>::Prefix, hop: Self::Addr) -> Result<(), Refusal>
+    fn announce(
+        &mut self,
+        plane: u16,
+        prefix: <Self::Addr as Address>::Prefix,
+        hop: Self::Addr,
+    ) -> Result<(), Refusal>
         requires { ⌜ valid (now self) ⌝ }
         ensures valid { λ _. ⌜ valid (now (self .exit)) ⌝ }
         ensures does { λ r. ⌜ Does planes view room stack (now (self .entry)) (now (self .exit)) (on plane (announce (Addr·Address .pbits prefix) (Addr·Address .bits hop))) (of-update r) ⌝ }
         ensures refused { λ r. ⌜ (isOk r ≡ false → now (self .exit) ≡ now (self .entry)) ⌝ };
 
     // Takes the prefix out of the plane.
-    fn withdraw(&mut self, plane: u16, prefix: <Self::Addr as Address>::Prefix) -> Result<(), Refusal>
+    fn withdraw(
+        &mut self,
+        plane: u16,
+        prefix: <Self::Addr as Address>::Prefix,
+    ) -> Result<(), Refusal>
         requires { ⌜ valid (now self) ⌝ }
         ensures valid { λ _. ⌜ valid (now (self .exit)) ⌝ }
         ensures does { λ r. ⌜ Does planes view room stack (now (self .entry)) (now (self .exit)) (on plane (withdraw (Addr·Address .pbits prefix))) (of-update r) ⌝ }
         ensures refused { λ r. ⌜ (isOk r ≡ false → now (self .exit) ≡ now (self .entry)) ⌝ };
 
     // The hop that the plane has for the prefix.
-    fn fetch(&mut self, plane: u16, prefix: <Self::Addr as Address>::Prefix) -> Result<Option<Self::Addr>, Refusal>
+    fn fetch(
+        &mut self,
+        plane: u16,
+        prefix: <Self::Addr as Address>::Prefix,
+    ) -> Result<Option<Self::Addr>, Refusal>
         requires { ⌜ valid (now self) ⌝ }
         ensures valid { λ _. ⌜ valid (now (self .exit)) ⌝ }
         ensures does { λ r. ⌜ Does planes view room stack (now (self .entry)) (now (self .exit)) (on plane (fetch (Addr·Address .pbits prefix))) (of-fetch (Addr·Address .bits) r) ⌝ }
         ensures refused { λ r. ⌜ (isOk r ≡ false → now (self .exit) ≡ now (self .entry)) ⌝ };
 
     // The length and hop of the longest visible prefix that covers the address and is no longer than the bound.
-    fn lookup(&mut self, address: Self::Addr, bound: u8) -> Result<Option<(u8, Self::Addr)>, Refusal>
+    fn lookup(
+        &mut self,
+        address: Self::Addr,
+        bound: u8,
+    ) -> Result<Option<(u8, Self::Addr)>, Refusal>
         requires { ⌜ valid (now self) ⌝ }
         ensures valid { λ _. ⌜ valid (now (self .exit)) ⌝ }
         ensures does { λ r. ⌜ Does planes view room stack (now (self .entry)) (now (self .exit)) (lookup (Addr·Address .bits address) bound) (of-lookup (Addr·Address .bits) r) ⌝ }

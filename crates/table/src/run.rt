@@ -15,7 +15,10 @@ use crate::interface::Table;
 use address::kind::Address;
 
 // Makes one call.
-pub fn perform<T: Table>(table: &mut T, call: Call<T::Addr, <T::Addr as Address>::Prefix>) -> Reply<T::Addr>
+pub fn perform<T: Table>(
+    table: &mut T,
+    call: Call<T::Addr, <T::Addr as Address>::Prefix>,
+) -> Reply<T::Addr>
     requires { ⌜ T·Table .valid (now table) ⌝ }
     ensures valid { λ _. ⌜ T·Table .valid (now (table .exit)) ⌝ }
     ensures does { λ r. ⌜ Does (T·Table .planes) (T·Table .view) (T·Table .room) (T·Table .stack) (now (table .entry)) (now (table .exit)) (as-call (Addr·Address .bits) (Addr·Address .pbits) call) (as-reply (Addr·Address .bits) r) ⌝ }
@@ -50,7 +53,10 @@ fn store<X: Copy>(items: &mut [X], i: usize, item: X)
 }
 
 // Makes the calls in turn and writes down the reply to each: the table ends as the reference machine has it for the whole list.
-pub fn run<T: Table>(table: &mut T, exchanges: &mut [Exchange<T::Addr, <T::Addr as Address>::Prefix>])
+pub fn run<T: Table>(
+    table: &mut T,
+    exchanges: &mut [Exchange<T::Addr, <T::Addr as Address>::Prefix>],
+)
     requires { ⌜ T·Table .valid (now table) ⌝ }
     ensures valid { λ _. ⌜ T·Table .valid (now (table .exit)) ⌝ }
     ensures calls { λ _. ⌜ map (λ x. x .call) (now (exchanges .exit)) ≡ map (λ x. x .call) (now (exchanges .entry)) ⌝ }
@@ -60,6 +66,13 @@ pub fn run<T: Table>(table: &mut T, exchanges: &mut [Exchange<T::Addr, <T::Addr 
     for i in 0..exchanges.len() {
         let call = exchanges[i].call;
         let reply = perform(table, call);
-        store(exchanges, i, Exchange { call, reply: Some(reply) });
+        store(
+            exchanges,
+            i,
+            Exchange {
+                call,
+                reply: Some(reply),
+            },
+        );
     }
 }

@@ -1,3 +1,7 @@
-// Tests of the tables by lists of calls, for each address kind.
+// Tests of tables and stacks of layers by lists of calls.
 #[cfg(test)]
-mod tests;
+mod layers;
+#[cfg(test)]
+mod support;
+#[cfg(test)]
+mod tables;

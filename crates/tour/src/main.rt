@@ -1,7 +1,11 @@
-// Puts one list of calls through a sorted list of each address kind, and prints each call with its reply and the table at the end.
+// Puts one list of calls through a sorted list of each address kind, and prints each call with its reply and the table at the end;
+// then another through stacks of layers in three orders, and prints the filled slots of their caches after each call.
 mod calls;
 mod print;
 mod samples;
+mod slots;
+mod stacks;
+mod walk;
 
 use address::ipv4::Ipv4;
 use address::ipv4::address::Ipv4Address;
@@ -48,5 +52,11 @@ fn ipv6(rt: &LibcRuntime) -> Result<(), AnyError> {
 
 fn main(rt: LibcRuntime) -> Result<(), AnyError> {
     ipv4(&rt)?;
-    ipv6(&rt)
+    ipv6(&rt)?;
+    stacks::cache_on_top_ipv4(&rt)?;
+    stacks::filter_on_top_ipv4(&rt)?;
+    stacks::caches_below_ipv4(&rt)?;
+    stacks::cache_on_top_ipv6(&rt)?;
+    stacks::filter_on_top_ipv6(&rt)?;
+    stacks::caches_below_ipv6(&rt)
 }

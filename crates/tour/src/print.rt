@@ -8,7 +8,11 @@ use table::calls::Exchange;
 use table::calls::Reply;
 
 // Prints what becomes of an address and a length as a prefix, where they are refused.
-pub fn print_refused<A: Address + fmt::Display>(rt: &LibcRuntime, address: A, len: u8) -> Result<(), AnyError> {
+pub fn print_refused<A: Address + fmt::Display>(
+    rt: &LibcRuntime,
+    address: A,
+    len: u8,
+) -> Result<(), AnyError> {
     if let Err(refusal) = address.prefix(len) {
         let number = refusal.number();
         println!(rt, "prefix {address}/{len}: refused {number}")?;
@@ -17,9 +21,15 @@ pub fn print_refused<A: Address + fmt::Display>(rt: &LibcRuntime, address: A, le
 }
 
 // Prints a call.
-fn print_call<A: fmt::Display + Copy, P: fmt::Display + Copy>(rt: &LibcRuntime, call: Call<A, P>) -> Result<(), AnyError> {
+pub fn print_call<A: fmt::Display + Copy, P: fmt::Display + Copy>(
+    rt: &LibcRuntime,
+    call: Call<A, P>,
+) -> Result<(), AnyError> {
     match call {
-        Call::Announce { plane, prefix, hop } => print!(rt, "announce {prefix} via {hop} on plane {plane}")?,
+        Call::Announce { plane, prefix, hop } => print!(
+            rt,
+            "announce {prefix} via {hop} on plane {plane}"
+        )?,
         Call::Withdraw { plane, prefix } => print!(rt, "withdraw {prefix} on plane {plane}")?,
         Call::Fetch { plane, prefix } => print!(rt, "fetch {prefix} on plane {plane}")?,
         Call::Lookup { address, bound } => print!(rt, "lookup {address} at bound {bound}")?,
@@ -28,7 +38,10 @@ fn print_call<A: fmt::Display + Copy, P: fmt::Display + Copy>(rt: &LibcRuntime, 
 }
 
 // Prints a reply.
-fn print_reply<A: fmt::Display + Copy>(rt: &LibcRuntime, reply: Reply<A>) -> Result<(), AnyError> {
+pub fn print_reply<A: fmt::Display + Copy>(
+    rt: &LibcRuntime,
+    reply: Reply<A>,
+) -> Result<(), AnyError> {
     match reply {
         Reply::Done => println!(rt, ": done")?,
         Reply::Holds(hop) => match hop {
@@ -48,7 +61,10 @@ fn print_reply<A: fmt::Display + Copy>(rt: &LibcRuntime, reply: Reply<A>) -> Res
 }
 
 // Prints each call with the reply that it got.
-pub fn print_exchanges<A: fmt::Display + Copy, P: fmt::Display + Copy>(rt: &LibcRuntime, exchanges: &[Exchange<A, P>]) -> Result<(), AnyError> {
+pub fn print_exchanges<A: fmt::Display + Copy, P: fmt::Display + Copy>(
+    rt: &LibcRuntime,
+    exchanges: &[Exchange<A, P>],
+) -> Result<(), AnyError> {
     for exchange in exchanges {
         print_call(rt, exchange.call)?;
         match exchange.reply {

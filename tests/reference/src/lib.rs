@@ -1,11 +1,13 @@
 //! A plain reading of docs/RULES.md in Rust, with none of the proved code: a table as a list of routes that every call walks through.
 //! The expected output of the programs is held against it.
 
+pub mod stacks;
+
 /// An address of up to 128 bits, left-aligned.
 pub type Bits = u128;
 
 /// The first `len` bits, zeros after.
-fn cut(bits: Bits, len: u32) -> Bits {
+pub fn cut(bits: Bits, len: u32) -> Bits {
     if len == 0 {
         0
     } else {

@@ -1,4 +1,5 @@
 //! What the tour program prints, worked out from the rules.
+use reference::stacks::*;
 use reference::*;
 
 /// The prefixes and addresses of one kind, as the program has them.
@@ -77,6 +78,63 @@ fn tour(at: &Samples) -> String {
     out
 }
 
+/// The calls on one stack of two planes, with the slots of its caches after each.
+fn walk(name: &str, at: &Samples, mut stack: Stack) -> String {
+    let w = at.width;
+    let net = |(bits, len)| prefix(w, bits, len).unwrap();
+    let (all, wide, narrow, host) = (net((0, 0)), net(at.wide), net(at.narrow), net((at.inside, w)));
+    let mut out = format!("{}, {name}\n", at.name);
+    for call in [
+        Call::Announce(0, wide, at.first),
+        Call::Announce(0, narrow, at.second),
+        Call::Announce(1, narrow, at.second),
+        Call::Announce(1, all, at.second),
+        Call::Lookup(at.inside, w),
+        Call::Lookup(at.inside, w),
+        Call::Lookup(at.outside, w),
+        Call::Lookup(at.inside, 4),
+        Call::Withdraw(1, wide),
+        Call::Withdraw(0, wide),
+        Call::Lookup(at.inside, w),
+        Call::Fetch(0, narrow),
+        Call::Announce(2, host, at.first),
+        Call::Lookup(at.inside, w + 1),
+    ] {
+        let reply = stack.call(call);
+        out += &show(w, call, reply);
+        for slots in stack.caches() {
+            out += "  slots";
+            for (k, slot) in slots.iter().enumerate() {
+                match slot {
+                    Some((a, Some((n, h)))) => out += &format!(" [{k}] {} length {n} via {}", text(w, *a), text(w, *h)),
+                    Some((a, None)) => out += &format!(" [{k}] {} none", text(w, *a)),
+                    None => {}
+                }
+            }
+            out += "\n";
+        }
+    }
+    out
+}
+
+fn stacks(at: &Samples) -> String {
+    let w = at.width;
+    let rules = || {
+        let net = |(bits, len)| prefix(w, bits, len).unwrap();
+        vec![
+            Rule { permit: false, prefix: net(at.wide), ge: at.narrow.1, le: w },
+            Rule { permit: true, prefix: net((0, 0)), ge: 0, le: w },
+        ]
+    };
+    let three = || list(w, 3);
+    let top = cached(4, falling(filtered(rules(), three()), three()));
+    let middle = filtered(rules(), cached(4, falling(three(), three())));
+    let below = falling(cached(4, filtered(rules(), three())), cached(4, three()));
+    walk("a cache over a fall-through from a filtered list to a list", at, top)
+        + &walk("a filter over a cache over a fall-through from list to list", at, middle)
+        + &walk("a fall-through from a cached filtered list to a cached list", at, below)
+}
+
 #[test]
 fn the_stored_output_follows_from_the_rules() {
     let ipv4 = Samples {
@@ -100,5 +158,5 @@ fn the_stored_output_follows_from_the_rules() {
         second: 0xfe80 << 112 | 2,
     };
     let stored = std::fs::read_to_string(concat!(env!("CARGO_MANIFEST_DIR"), "/../../crates/tour/stdout")).unwrap();
-    assert_eq!(stored, tour(&ipv4) + &tour(&ipv6));
+    assert_eq!(stored, tour(&ipv4) + &tour(&ipv6) + &stacks(&ipv4) + &stacks(&ipv6));
 }

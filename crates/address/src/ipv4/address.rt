@@ -1,3 +1,4 @@
+ghost use Prim.Native.Nat.{_^_, _<_};
 ghost use lib.ListN.{take};
 ghost use Rattle.bits.specs.Halves.{low-bits};
 ghost use Rattle.bits.specs.Narrow.{lifted};
@@ -19,6 +20,8 @@ pub impl Address for Ipv4 as Ipv4Address {
     ghost bits = { λ a. low-bits 32 (a .bits) };
 
     ghost pbits = { λ p. take (p .len) (low-bits 32 (p .address .bits)) };
+
+    ghost real = { λ a. a .bits < 2 ^ 32 };
 
     ghost halves = { λ a. lifted 32 (a .bits) };
 

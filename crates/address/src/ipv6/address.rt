@@ -1,3 +1,4 @@
+ghost use Prim.Native.Nat.{_^_, _<_};
 ghost use lib.ListN.{take};
 ghost use Rattle.bits.specs.Wide.{paired};
 ghost use Rattle.address.specs.Kind6.{halves6, joined6, made6};
@@ -18,6 +19,8 @@ pub impl Address for Ipv6 as Ipv6Address {
     ghost bits = { λ a. paired (a .hi) (a .lo) };
 
     ghost pbits = { λ p. take (p .len) (paired (p .address .hi) (p .address .lo)) };
+
+    ghost real = { λ a. (a .hi < 2 ^ 64) × (a .lo < 2 ^ 64) };
 
     ghost halves = { halves6 };
 

@@ -1,7 +1,9 @@
+ghost use Prim.Native.Nat.{_^_, _<_};
 ghost use lib.ListN.{take};
 ghost use Rattle.bits.specs.Halves.{low-bits};
 ghost use Rattle.bits.specs.Narrow.{lifted};
 ghost use Rattle.kind48.specs.Kind48.{joined48, made48};
+use super::ADDRESSES;
 use super::Mac48;
 use super::Prefix48;
 use address::checks::check_prefix;
@@ -20,6 +22,8 @@ pub impl Address for Mac48 as Mac48Address {
 
     ghost pbits = { λ p. take (p .len) (low-bits 48 (p .address .bits)) };
 
+    ghost real = { λ a. a .bits < 2 ^ 48 };
+
     ghost halves = { λ a. lifted 48 (a .bits) };
 
     ghost joined = { joined48 };
@@ -34,7 +38,7 @@ pub impl Address for Mac48 as Mac48Address {
 
     fn to_halves(self) -> Halves {
         Halves {
-            hi: self.bits << 16,
+            hi: (self.bits % ADDRESSES) << 16,
             lo: 0,
         }
     }
@@ -52,7 +56,10 @@ pub impl Address for Mac48 as Mac48Address {
     }
 
     fn prefix(self, len: u8) -> Result<Prefix48, PrefixRefusal> {
-        check_prefix(self.to_halves(), Self::WIDTH, len)?;
-        Ok(Prefix48 { address: self, len })
+        let address = Mac48 {
+            bits: self.bits % ADDRESSES,
+        };
+        check_prefix(address.to_halves(), Self::WIDTH, len)?;
+        Ok(Prefix48 { address, len })
     }
 }

@@ -35,13 +35,14 @@ loop-i-holds g c =
     let s = c .args .table .now in
     let xs = c .args .exchanges .now in
     let f = as-call (g .Addr·Address .bits) (g .Addr·Address .pbits) in
-    let b = as-reply (g .Addr·Address .bits) in
-    ( c .pre
-    , so-none s
-    , refl
-    , refl
-    , (λ l. all-written xs xs 0 l refl refl)
-    , (λ l. all-promised xs xs 0 l refl f b (t .described s) (t .sound s (c .pre)) (t .current s (c .pre)) (so-none s)))
+    let b = as-reply (g .Addr·Address .bits) in (
+      c .pre,
+      so-none s,
+      refl,
+      refl,
+      (λ l. all-written xs xs 0 l refl refl),
+      (λ l. all-promised xs xs 0 l refl f b (t .described s) (t .sound s (c .pre)) (t .current s (c .pre)) (so-none s)),
+    )
 
 pub loop-i-again : need.loop-i-again
 loop-i-again g c =
@@ -61,14 +62,15 @@ loop-i-again g c =
     let zs = c .store .last .items in
     let calls = calls-more f xs ys i x l e (inv .2) in
     let replies : map b (replies-in (take (i + 1) zs)) ≡ map b (replies-in (take i xs)) ++ (b y ∷ []) =
-        ap (λ zs. map b (replies-in (take (i + 1) zs))) (c .store .ensures) ∙ ap (map b) (replies-more xs i (x .call) y l) ∙ map-push b (replies-in (take i xs)) y in
+    ap (λ zs. map b (replies-in (take (i + 1) zs))) (c .store .ensures) ∙ ap (map b) (replies-more xs i (x .call) y l) ∙ map-push b (replies-in (take i xs)) y in
     let so : So (t .planes) (t .view) (t .room) (t .stack) (c .args .table .now) (c .perform-reply .last .table) (map f (take (i + 1) (calls-in ys))) (map b (replies-in (take (i + 1) zs))) =
-        rw (calls, replies) (so-more (inv .1) (c .perform-reply .ensures .does) (c .perform-reply .ensures .refused)) in
+    rw (calls, replies) (so-more (inv .1) (c .perform-reply .ensures .does) (c .perform-reply .ensures .refused)) in
     let same : calls-in zs ≡ calls-in ys = ap calls-in (c .store .ensures) ∙ calls-kept xs i x y l e ∙ inv .2 in
-    let told : map (λ x. x .reply) (take (i + 1) zs) ≡ map (λ z. Some z) (replies-in (take (i + 1) zs)) = rw (c .store .ensures) (written-more xs i (x .call) y l (inv .3)) in
-    ( ok
-    , so
-    , same
-    , told
-    , (λ m. all-written zs ys (i + 1) m same told)
-    , (λ m. all-promised zs ys (i + 1) m same f b (t .described (c .args .table .now)) (t .sound (c .perform-reply .last .table) ok) (t .current (c .perform-reply .last .table) ok) so))
+    let told : map (λ x. x .reply) (take (i + 1) zs) ≡ map (λ z. Some z) (replies-in (take (i + 1) zs)) = rw (c .store .ensures) (written-more xs i (x .call) y l (inv .3)) in (
+      ok,
+      so,
+      same,
+      told,
+      (λ m. all-written zs ys (i + 1) m same told),
+      (λ m. all-promised zs ys (i + 1) m same f b (t .described (c .args .table .now)) (t .sound (c .perform-reply .last .table) ok) (t .current (c .perform-reply .last .table) ok) so),
+    )

@@ -1,3 +1,4 @@
+use native.Mathlib.Omega.{arith}
 use lib.Dec.{lit≤}
 use Rattle.std.proofs.shelf.Results.{err-from-errBy}
 use Rattle.bits.specs.Halves.{low-bits}
@@ -18,7 +19,7 @@ pub ghost-result : need.ghost-result
 ghost-result c =
     let ok = checked-ok-at _ _ _ (halves-front 32 _ (c .args .self .bits) (lit≤ tt) (c .to-halves .ensures)) (c .in-Continue-check-prefix .ensures tt) in
     let f = checked-ok (low-bits 32 (c .args .self .bits)) (c .args .len) _ ok in
-    (rw (low-length 32 (c .args .self .bits)) at (f .0), (f .1, tt))
+    (omega arith, (rw (low-length 32 (c .args .self .bits)) at (f .0), (f .1, tt)))
 
 pub returns : need.returns
 returns c =

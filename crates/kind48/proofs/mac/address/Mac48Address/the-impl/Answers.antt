@@ -5,7 +5,7 @@ use mathlib.Core.Path.{_≡_, sym}
 use lib.ListN.{length, take}
 use Rattle.bits.specs.Halves.{low-bits}
 use Rattle.bits.proofs.LowBits.{low-length}
-use Rattle.bits.proofs.Narrow.{lifted-fit, lifted-aligned, lifted-front, lowered-lifted, lifted-lowered, narrow-length, narrow-zeros, narrow-lengths, narrow-addresses, narrow-made}
+use Rattle.bits.proofs.Narrow.{lifted-fit, lifted-aligned, lifted-front, lowered-back, lowered-bound, lifted-lowered, narrow-length, narrow-zeros, narrow-lengths, narrow-addresses, narrow-made}
 use Rattle.kind48.proofs.Same48.{same-address, same-prefix}
 use Rattle.kind48.proofs.mac.address.Mac48Address.the-impl.Needs as need
 
@@ -13,13 +13,16 @@ pub whole-law : need.whole-law
 whole-law a = low-length 48 (a .bits)
 
 pub fits-law : need.fits-law
-fits-law a = (lifted-fit 48 (a .bits) (lit≤ tt) (a .small), lifted-aligned 48 (a .bits) (lit≤ tt))
+fits-law a = (lifted-fit 48 (a .bits) (lit≤ tt), lifted-aligned 48 (a .bits) (lit≤ tt))
 
 pub reads-law : need.reads-law
 reads-law a = sym (lifted-front 48 (a .bits) (lit≤ tt))
 
 pub back-law : need.back-law
-back-law a = same-address _ a (lowered-lifted 48 (a .bits) (a .small))
+back-law a h = same-address _ a (lowered-back 48 (a .bits) h)
+
+pub lives-law : need.lives-law
+lives-law h = lowered-bound 48 h
 
 pub forth-law : need.forth-law
 forth-law h f a = lifted-lowered 48 h (lit≤ tt) f a
@@ -39,5 +42,5 @@ every-law q h = narrow-made 48 q h
 pub one-law : need.one-law
 one-law p q e =
     same-prefix p q
-    (same-address _ _ (narrow-addresses 48 _ _ _ _ (p .address .small) (q .address .small) (p .within) (q .within) (p .zeros) (q .zeros) e))
+    (same-address _ _ (narrow-addresses 48 _ _ _ _ (p .small) (q .small) (p .within) (q .within) (p .zeros) (q .zeros) e))
     (narrow-lengths 48 (p .address .bits) (q .address .bits) _ _ (p .within) (q .within) e)
