@@ -3,6 +3,7 @@ ghost use mathlib.Core.List.{_∷_, []};
 ghost use Prim.Native.Nat.{_≤_};
 ghost use lib.Dec.{eqb};
 ghost use lib.ListN.{length};
+ghost use Rattle.bits.specs.Halves.{Aligned};
 ghost use Rattle.model.specs.Maps.{held};
 ghost use Rattle.model.specs.Longest.{answer};
 ghost use Rattle.table.specs.Meaning.{as-hop, as-answer};
@@ -79,7 +80,7 @@ impl<'a, A: Address> Sorted<'a, A> {
             return None;
         }
         let held = self.rows[i];
-        let hop = A::from_halves(held.hop);
+        let hop = hop_in(held);
         match A::from_halves(held.prefix).prefix(held.len) {
             Ok(prefix) => Some((prefix, hop)),
             Err(_) => unreachable(),
@@ -92,7 +93,7 @@ impl<'a, A: Address> Sorted<'a, A> {
         ensures { λ r. ⌜ as-hop (A·Address .bits) r ≡ held (routes (A·Address .width) (now (self .entry) .used) (now (now (self .entry) .rows))) (A·Address .pbits prefix) ⌝ }
     {
         match find(self.rows, self.used, A::first(prefix), A::len(prefix)) {
-            Some(row) => Some(A::from_halves(row.hop)),
+            Some(row) => Some(hop_in(row)),
             None => None,
         }
     }
@@ -106,11 +107,19 @@ impl<'a, A: Address> Sorted<'a, A> {
         match best(self.rows, self.used, address.to_halves(), bound) {
             Some(i) => {
                 let row = self.rows[i];
-                Some((row.len, A::from_halves(row.hop)))
+                Some((row.len, hop_in(row)))
             }
             None => None,
         }
     }
+}
+
+// The next hop of a row.
+fn hop_in<A: Address>(row: Row) -> A
+    requires { ⌜ Aligned (A·Address .width) (row .hop) ⌝ }
+    ensures { λ r. ⌜ r ≡ A·Address .joined (row .hop) ⌝ }
+{
+    A::from_halves(row.hop)
 }
 
 // How many of so many borrowed rows are used at most.

@@ -11,16 +11,16 @@ pub find-requires : need.find-requires
 find-requires g c κs =
     record { rising = in-order _ _ _ (c .pre) (g .A·Address·met .sized .1); short = omega (arith, g .A·Address·met .sized .1, g .A·Address·met .short (c .args .prefix)) }
 
-pub from-halves-requires : need.from-halves-requires
-from-halves-requires g c κs = held-proper _ _ _ (c .pre) _ _ (sym (c .in-Some .ensures tt)) .hop-clear
+pub hop-in-requires : need.hop-in-requires
+hop-in-requires g c κs = held-proper _ _ _ (c .pre) _ _ (sym (c .in-Some .ensures tt)) .hop-clear
 
 pub returns-in-Some : need.returns-in-Some
 returns-in-Some g c =
     let p = c .args .prefix in
     let key = starts _ _ _ _ _ (c .first .ensures) (c .len .ensures) (g .A·Address·met .short p) (sym (g .A·Address·met .reads (g .A·Address .start p)) ∙ g .A·Address·met .opens p) in
     let ok : Row-ok (g .A·Address .width) (c .in-Some .row) = held-proper _ _ _ (c .pre) _ _ (sym (c .in-Some .ensures tt)) in
-    let bits : g .A·Address .bits (c .from-halves .result) ≡ front (g .A·Address .width) (c .in-Some .row .hop) =
-    ap (g .A·Address .bits) (c .from-halves .ensures) ∙ g .A·Address·met .reads _ ∙ ap (front (g .A·Address .width)) (g .A·Address·met .forth _ (ok .hop-fits) (ok .hop-clear)) in
+    let bits : g .A·Address .bits (c .hop-in .result) ≡ front (g .A·Address .width) (c .in-Some .row .hop) =
+    ap (g .A·Address .bits) (c .hop-in .ensures) ∙ g .A·Address·met .reads _ ∙ ap (front (g .A·Address .width)) (g .A·Address·met .forth _ (ok .hop-fits) (ok .hop-clear)) in
     ap Some bits ∙ fetched _ _ _ (c .pre) _ _ _ key (c .in-Some .ensures tt)
 
 pub returns-in-None : need.returns-in-None

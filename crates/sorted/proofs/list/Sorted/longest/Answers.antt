@@ -14,16 +14,16 @@ pub best-requires : need.best-requires
 best-requires g c κs =
     record { rising = in-order _ _ _ (c .pre .valid) (g .A·Address·met .sized .1); short = omega (arith, g .A·Address·met .sized .1) }
 
-pub from-halves-requires : need.from-halves-requires
-from-halves-requires g c κs = proper-at _ _ _ (c .pre .valid) _ (c .in-Some .ensures tt .0) .hop-clear
+pub hop-in-requires : need.hop-in-requires
+hop-in-requires g c κs = proper-at _ _ _ (c .pre .valid) _ (c .in-Some .ensures tt .0) .hop-clear
 
 pub returns-in-Some : need.returns-in-Some
 returns-in-Some g c =
     let w = g .A·Address .width in
     let rows = c .args .self .now .rows .now in
     let ok : Row-ok w (at rows (c .in-Some .i)) = proper-at _ _ _ (c .pre .valid) _ (c .in-Some .ensures tt .0) in
-    let bits : g .A·Address .bits (c .from-halves .result) ≡ front w (at rows (c .in-Some .i) .hop) =
-    ap (g .A·Address .bits) (c .from-halves .ensures) ∙ g .A·Address·met .reads _ ∙ ap (front w) (g .A·Address·met .forth _ (ok .hop-fits) (ok .hop-clear)) in
+    let bits : g .A·Address .bits (c .hop-in .result) ≡ front w (at rows (c .in-Some .i) .hop) =
+    ap (g .A·Address .bits) (c .hop-in .ensures) ∙ g .A·Address·met .reads _ ∙ ap (front w) (g .A·Address·met .forth _ (ok .hop-fits) (ok .hop-clear)) in
     let address : front w (c .to-halves .result) ≡ g .A·Address .bits (c .args .address) = ap (front w) (c .to-halves .ensures) ∙ sym (g .A·Address·met .reads (c .args .address)) in
     ap (λ (h : Bits). Some (at rows (c .in-Some .i) .len, h)) bits
     ∙ found-is _ _ _ (c .pre .valid) (g .A·Address·met .sized .1) _ _ _ (c .pre .within) (c .in-Some .ensures tt)

@@ -18,8 +18,8 @@ returns-then-i-self g c =
     let s = c .args .self .now in
     sym (nth-past (g .A·Address .width) (s .used) (s .rows .now) (c .args .i) (c .if-i-self .taken))
 
-pub from-halves-hop-requires : need.from-halves-hop-requires
-from-halves-hop-requires g c κs = proper-at _ _ _ (c .pre) (c .args .i) (c .if-i-self .left) .hop-clear
+pub hop-in-hop-requires : need.hop-in-hop-requires
+hop-in-hop-requires g c κs = proper-at _ _ _ (c .pre) (c .args .i) (c .if-i-self .left) .hop-clear
 
 pub from-halves-requires : need.from-halves-requires
 from-halves-requires g c κs =
@@ -41,6 +41,6 @@ returns g c =
     let row = at (s .rows .now) (c .args .i) in
     let ok = proper-at _ _ _ (c .pre) (c .args .i) (c .if-i-self .left) in
     let bits = ap (g .A·Address .bits) (c .from-halves .ensures) ∙ g .A·Address·met .reads _ ∙ ap (front w) (g .A·Address·met .forth _ (ok .prefix-fits) (aligned-wider _ _ _ (ok .short) (ok .prefix-clear))) in
-    let hop : g .A·Address .bits (c .from-halves-hop .result) ≡ front w (row .hop) = ap (g .A·Address .bits) (c .from-halves-hop .ensures) ∙ g .A·Address·met .reads _ ∙ ap (front w) (g .A·Address·met .forth _ (ok .hop-fits) (ok .hop-clear)) in
+    let hop : g .A·Address .bits (c .hop-in-hop .result) ≡ front w (row .hop) = ap (g .A·Address .bits) (c .hop-in-hop .ensures) ∙ g .A·Address·met .reads _ ∙ ap (front w) (g .A·Address·met .forth _ (ok .hop-fits) (ok .hop-clear)) in
     let prefix : g .A·Address .pbits (c .in-Ok .prefix) ≡ key row = ok-is (c .in-Ok .ensures tt ∙ ap (λ a. checked a (row .len)) bits ∙ row-checked w row (g .A·Address·met .sized .1) ok) in
     rw (prefix, hop) (sym (nth-here w (s .used) (s .rows .now) (c .args .i) (omega (arith, c .pre .few)) (c .if-i-self .left)))
