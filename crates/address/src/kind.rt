@@ -23,7 +23,7 @@ pub trait Address: Copy {
     // a prefix's own bits, as many as its length
     ghost pbits: { Self·Prefix → Bits };
 
-    // the numbers fit their types, as those of every value in a program do
+    // the numbers are in the range of the kind, as those of every value that a program can make
     ghost real: { Self → Type 0 };
 
     // the bits in two halves, with zeros after

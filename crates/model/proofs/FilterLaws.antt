@@ -17,7 +17,7 @@ use Rattle.model.specs.Views.{Rule, permits, filtered}
 use Rattle.model.specs.Machine.{Plane, Target, Answer, View, Room, Act, Call, on, lookup, Reply, found, refused, reply-of}
 use Rattle.model.specs.Stack.{Stack, filter, filter-view, past, asked-again, after, Described}
 use Rattle.model.specs.Laws.{Local}
-use Rattle.model.proofs.Coverings.{covering-short}
+use Rattle.bits.proofs.Strings.{covers-starts}
 use Rattle.model.proofs.StackLaws.{after-nil, after-append}
 use Rattle.model.proofs.Steps.{At, Step, Described-at}
 use Rattle.model.proofs.Lookups.{found-answer}
@@ -188,7 +188,7 @@ pub covers-long : (p a : Bits) (n : ℕ) → n < length p → covers p (take n a
 covers-long p a n h = go (covers p (take n a)) refl
   where
     go : (z : Bool) → covers p (take n a) ≡ z → z ≡ false
-    go true e = absurd (omega (arith, covering-short p (take n a) e, length-take n a))
+    go true e = absurd (omega (arith, covers-starts p (take n a) e .0, length-take n a))
     go false e = refl
 
 -- ---- a lookup, one question below after the other

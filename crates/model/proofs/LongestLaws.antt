@@ -13,7 +13,8 @@ use Rattle.std.proofs.shelf.Tests.{cases-eq}
 use Rattle.bits.specs.Bits.{Bits, covers}
 use Rattle.model.specs.Maps.{Visible}
 use Rattle.model.specs.Longest.{or-else, at-length, answer, Candidate, Longest-found, Longest, Longest-laws}
-use Rattle.model.proofs.Coverings.{covering-is, take-covers}
+use Rattle.bits.proofs.Strings.{covers-starts}
+use Rattle.model.proofs.Coverings.{take-covers}
 
 module _ {V : Type 0} where
   some-seen : (o : Option V) (v : V) → o ≡ Some v → o ≡ None → ⊥
@@ -34,7 +35,7 @@ module _ {V : Type 0} where
   tighter s a k e q c = record { visible = c .visible; covering = c .covering; within = go (cases-eq (length q) (suc k)) }
     where
       go : (length q ≡ suc k) ⊎ (length q ≡ suc k → ⊥) → length q ≤ k
-      go (inl f) = absurd (c .visible (ap s (covering-is q a (c .covering) ∙ ap (λ n. take n a) f) ∙ e))
+      go (inl f) = absurd (c .visible (ap s (covers-starts q a (c .covering) .1 ∙ ap (λ n. take n a) f) ∙ e))
       go (inr f) = omega (arith, c .within)
 
   wider : (s : Visible V) (a : Bits) (k : ℕ) → s (take (suc k) a) ≡ None → (x : Option (ℕ × V)) → Longest s a k x → Longest s a (suc k) x
@@ -51,7 +52,7 @@ module _ {V : Type 0} where
   is-longest s a zero l = go (s []) refl
     where
       go : (o : Option V) → s [] ≡ o → Longest s a zero (at-length zero o)
-      go None e = λ q c. c .visible (ap s (covering-is q a (c .covering) ∙ ap (λ n. take n a) (empty q c)) ∙ e)
+      go None e = λ q c. c .visible (ap s (covers-starts q a (c .covering) .1 ∙ ap (λ n. take n a) (empty q c)) ∙ e)
         where
           empty : (q : Bits) → Candidate s a zero q → length q ≡ zero
           empty q c = omega (arith, c .within)
@@ -72,7 +73,7 @@ module _ {V : Type 0} where
       let down : length (f .prefix) ≤ y .0 = g .longest (f .prefix) (f .candidate) in
       let n : x .0 ≡ y .0 = omega (arith, f .long, g .long) in
       let m : length (f .prefix) ≡ length (g .prefix) = f .long ∙ n ∙ sym (g .long) in
-      let p : f .prefix ≡ g .prefix = covering-is (f .prefix) a (f .candidate .covering) ∙ ap (λ k. take k a) m ∙ sym (covering-is (g .prefix) a (g .candidate .covering)) in
+      let p : f .prefix ≡ g .prefix = covers-starts (f .prefix) a (f .candidate .covering) .1 ∙ ap (λ k. take k a) m ∙ sym (covers-starts (g .prefix) a (g .candidate .covering) .1) in
       let w : Some (x .1) ≡ Some (y .1) = sym (f .value) ∙ ap s p ∙ g .value in
       let v : x .1 ≡ y .1 = cc in
       λ i. Some (n i, v i)
