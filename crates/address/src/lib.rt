@@ -1,3 +1,5 @@
+#![tactic(auto)]
+
 pub mod checks;
 pub mod ipv4;
 pub mod ipv6;

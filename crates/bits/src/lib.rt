@@ -1,3 +1,5 @@
+#![tactic(auto)]
+
 mod arithmetic;
 pub mod halves;
 pub mod laws;

@@ -1,4 +1,6 @@
 // Tests of the layers at their limits, and of stacks of all three at an address kind of 48 bits.
+#![tactic(auto)]
+
 #[cfg(test)]
 mod kind48;
 #[cfg(test)]

@@ -78,7 +78,7 @@ module _ {V : Type 0} where
   ]
   partings_sides (r ∷ (s ∷ m)) g p (inr i) e =
       let b = partings_sides (s ∷ m) g.1 p i (absent_tail r (s ∷ m) p e) in
-      record { low = b.low; high = b.high; low_in = inr b.low-in; high_in = inr b.high-in; low_side = b.low-side; high_side = b.high-side }
+      record { low = b.low; high = b.high; low_in = inr b.low_in; high_in = inr b.high_in; low_side = b.low_side; high_side = b.high_side }
 
   sides_meet : (m : Map V) → Rising m → (p t u : Bits) → In t (prefixes m) → In u (prefixes m) → Beneath p false t → Beneath p true u → In p (partings m)
   sides_meet [] g p t u i j a b = elim i [ ]
@@ -111,11 +111,11 @@ module _ {V : Type 0} where
       c = common r.prefix s.prefix
 
       clash : Beneath c true s.prefix → Sides (s ∷ m) c → ⊥
-      clash b w = at w.low-in
+      clash b w = at w.low_in
         where
           at : In w.low (prefixes (s ∷ m)) → ⊥
-          at (inl e) = one_side c s.prefix (subst (Beneath c false) e w.low-side) b
-          at (inr i) = not_both s.prefix w.low (above_in s.prefix w.low m g.1.0 i) (sides_order c w.low s.prefix w.low-side b)
+          at (inl e) = one_side c s.prefix (subst (Beneath c false) e w.low_side) b
+          at (inr i) = not_both s.prefix w.low (above_in s.prefix w.low m g.1.0 i) (sides_order c w.low s.prefix w.low_side b)
 
       later : f c ≡ true → In c (filter f (partings (s ∷ m))) → ⊥
       later e i = elim (parts r.prefix s.prefix g.0.0) [
@@ -148,7 +148,7 @@ module _ {V : Type 0} where
           let k = in_kept (λ q. not (is_some (held m q))) (partings m) p i in
           let e : held m p ≡ None = none_test (held m p) k.1 in
           let w = partings_sides m g p k.0 e in
-          record { absent = e; sides = elim [ false ↦ (w.low, held_in m w.low w.low-in, w.low-side) | true ↦ (w.high, held_in m w.high w.high-in, w.high-side) ] }
+          record { absent = e; sides = elim [ false ↦ (w.low, held_in m w.low w.low_in, w.low_side) | true ↦ (w.high, held_in m w.high w.high_in, w.high_side) ] }
 
       back : Branch (held m) p → In p (branches m)
       back b =

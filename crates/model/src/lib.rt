@@ -1,4 +1,6 @@
 // The meaning of tables and stacks of layers, as definitions in specs/; each law about them stands on the contract of a function here.
+#![tactic(auto)]
+
 ghost use Rattle.model.specs.Maps.{MapLaws};
 ghost use Rattle.model.specs.Longest.{LongestLaws};
 ghost use Rattle.model.specs.Room.{RoomLaws};

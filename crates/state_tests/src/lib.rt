@@ -1,3 +1,5 @@
 // Tests of the two states of a stack.
+#![tactic(auto)]
+
 #[cfg(test)]
 mod states;

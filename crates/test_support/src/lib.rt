@@ -1,4 +1,6 @@
 // Lists of calls with the replies that are due, for tests.
+#![tactic(auto)]
+
 use std::alloc::Global;
 use std::fmt;
 use std::test::*;

@@ -1,5 +1,7 @@
 // Puts one list of calls through a sorted list of each address kind, and prints each call with its reply and the table at the end;
 // then another through stacks of layers in three orders, and prints the filled slots of their caches after each call.
+#![tactic(auto)]
+
 mod stacks;
 
 use address::ipv4::Ipv4;

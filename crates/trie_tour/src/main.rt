@@ -1,5 +1,7 @@
 // The lists of calls of the tour over PATRICIA: a table of each address kind alone, and as the upper table of a stack whose lower table
 // is a sorted list.
+#![tactic(auto)]
+
 mod stacks;
 
 use address::ipv4::Ipv4;

@@ -12,5 +12,5 @@ returns g c =
     prefix_front k.width _ _ _ _ refl refl (law.short c.args.p) (sym (law.reads (k.start c.args.p)) ∙ law.opens c.args.p) in
     let q : front (length (k.pbits c.args.q)) (k.halves (k.start c.args.q)) ≡ k.pbits c.args.q =
     prefix_front k.width _ _ _ _ refl refl (law.short c.args.q) (sym (law.reads (k.start c.args.q)) ∙ law.opens c.args.q) in
-    c.order-halves.ensures ∙ ap (λ (s : Bits). order s (front (length (k.pbits c.args.q)) (k.halves (k.start c.args.q)))) p
+    c.order_halves.ensures ∙ ap (λ (s : Bits). order s (front (length (k.pbits c.args.q)) (k.halves (k.start c.args.q)))) p
     ∙ ap (order (k.pbits c.args.p)) q

@@ -3,4 +3,4 @@ use Rattle.bits.proofs.Primitives.{shared_is}
 use Rattle.bits.proofs.words.common_len.Goals as goal
 
 pub returns : goal.returns
-returns c = c.shared-bits.ensures ∙ shared_is _ _ (omega arith, omega arith) (omega arith, omega arith)
+returns c = c.shared_bits.ensures ∙ shared_is _ _ (omega arith, omega arith) (omega arith, omega arith)

@@ -3,4 +3,4 @@ use Rattle.bits.proofs.Primitives.{agree_is}
 use Rattle.bits.proofs.words.covers.Goals as goal
 
 pub returns : goal.returns
-returns c = c.agree-on.ensures ∙ agree_is _ _ _ c.requires (omega arith, omega arith) (omega arith, omega arith)
+returns c = c.agree_on.ensures ∙ agree_is _ _ _ c.requires (omega arith, omega arith) (omega arith, omega arith)

@@ -4,4 +4,4 @@ use Rattle.bits.proofs.Primitives.{cut_is}
 use Rattle.bits.proofs.words.masked.Goals as goal
 
 pub returns : goal.returns
-returns c = ap word c.cut-after.ensures ∙ cut_is _ _ c.requires
+returns c = ap word c.cut_after.ensures ∙ cut_is _ _ c.requires

@@ -6,4 +6,4 @@ pub returns : goal.returns
 returns c =
     let h = c.args.h in
     let e : c.from.result * 2 ^ 64 % 2 ^ 128 + c.from-2.result ≡ h.hi * 2 ^ 64 + h.lo = omega arith in
-    c.low-16.ensures ∙ ap (λ n. n / 2 ^ (128 - c.args.width) % 65536) e ∙ last_bits 16 c.args.width h c.requires.some c.requires.most (omega arith)
+    c.low_16.ensures ∙ ap (λ n. n / 2 ^ (128 - c.args.width) % 65536) e ∙ last_bits 16 c.args.width h c.requires.some c.requires.most (omega arith)

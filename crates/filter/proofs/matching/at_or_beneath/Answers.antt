@@ -15,7 +15,7 @@ returns-then-len-n g c =
     let a = g.A.Address.bits c.args.address in
     let l : length p ≡ c.min-len.result = front_length _ _ (omega arith) in
     c.covers.ensures
-    ∙ covers_address g.A.Address.width p a _ _ c.to-halves.ensures (omega arith) (law.reads c.args.address)
+    ∙ covers_address g.A.Address.width p a _ _ c.to_halves.ensures (omega arith) (law.reads c.args.address)
     ∙ sym (covers_take p _ c.args.n (omega arith))
     ∙ ap (λ q. covers q (take c.args.n a)) (sym (front_capped _ _ _ c.min-len.ensures))
 

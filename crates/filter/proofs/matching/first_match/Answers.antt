@@ -9,11 +9,11 @@ use Rattle.filter.proofs.matching.first_match.Goals as goal
 pub returns-then-i-rules : goal.returns-then-i-rules
 returns-then-i-rules g c =
     let rules = c.args.rules.now in
-    let e = c.first-end-i.ensures in
+    let e = c.first_end-i.ensures in
     let a = g.A.Address.bits c.args.address in
     let w = g.met.A.Address.whole c.args.address in
-    c.permits-at.ensures
-    ∙ sym (decided_at _ rules c.first-end-i.result e.before c.if-i-rules.true (e.here c.if-i-rules.true))
+    c.permits_at.ensures
+    ∙ sym (decided_at _ rules c.first_end-i.result e.before c.if-i-rules.true (e.here c.if-i-rules.true))
     ∙ ap (permits (rules_in rules)) (take_capped c.args.n c.min.result a (omega (arith, w)))
 
 pub returns-else-i-rules : goal.returns-else-i-rules
@@ -22,5 +22,5 @@ returns-else-i-rules g c =
     let a = g.A.Address.bits c.args.address in
     let w = g.met.A.Address.whole c.args.address in
     le-ltb _ _ c.if-i-rules.false
-    ∙ sym (decided_nowhere _ rules (λ k h. c.first-end-i.ensures.before k (omega arith)))
+    ∙ sym (decided_nowhere _ rules (λ k h. c.first_end-i.ensures.before k (omega arith)))
     ∙ ap (permits (rules_in rules)) (take_capped c.args.n c.min.result a (omega (arith, w)))

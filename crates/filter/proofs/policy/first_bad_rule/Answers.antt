@@ -10,12 +10,12 @@ loop-i-init g c = refl
 
 pub loop-i-preserved : goal.loop-i-preserved
 loop-i-preserved g c =
-    bad_later c.args.rules.now c.loop-i.i c.index-rules-i.result c.loop-i-test.true c.index-rules-i.is g.A.Address.width (as_rule g.A.Address.pbits) (sym c.is-well-formed.ensures ∙ c.if-not-is-well-formed.false)
+    bad_later c.args.rules.now c.loop-i.i c.index-rules-i.result c.loop-i-test.true c.index-rules-i.is g.A.Address.width (as_rule g.A.Address.pbits) (sym c.is_well_formed.ensures ∙ c.if-not-is_well_formed.false)
     ∙ c.loop-i.invariant
 
-pub returns-then-not-is-well-formed : goal.returns-then-not-is-well-formed
-returns-then-not-is-well-formed g c =
-    sym (bad_here c.args.rules.now c.loop-i.i c.index-rules-i.result c.loop-i-test.true c.index-rules-i.is g.A.Address.width (as_rule g.A.Address.pbits) (sym c.is-well-formed.ensures ∙ c.if-not-is-well-formed.true))
+pub returns-then-not-is_well_formed : goal.returns-then-not-is_well_formed
+returns-then-not-is_well_formed g c =
+    sym (bad_here c.args.rules.now c.loop-i.i c.index-rules-i.result c.loop-i-test.true c.index-rules-i.is g.A.Address.width (as_rule g.A.Address.pbits) (sym c.is_well_formed.ensures ∙ c.if-not-is_well_formed.true))
     ∙ c.loop-i.invariant
 
 pub returns : goal.returns

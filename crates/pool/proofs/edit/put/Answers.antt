@@ -26,7 +26,7 @@ returns-in-Root c =
 pub returns-in-Set : goal.returns-in-Set
 returns-in-Set c =
     let s = subst (Suits c.args.ns.now c.args.used c.args.key) c.in-Set.is c.requires.suits in
-    placed_is _ _ _ _ _ _ _ c.requires.some (placed_at c.args.ns.now c.args.used c.args.room c.args.key _ _ _ _ c.set-hop.ensures refl
+    placed_is _ _ _ _ _ _ _ c.requires.some (placed_at c.args.ns.now c.args.used c.args.room c.args.key _ _ _ _ c.set_hop.ensures refl
     (way_exact c.args.ns.now c.args.used c.args.room c.requires.trie (omega (arith, c.requires.fits)) c.args.key c.requires.short c.requires.leaf (routed c.args.key c.args.hop c.requires.some) _ _ s.0
     (omega (arith, s.0.shared.left, s.1.0)) (omega (arith, s.0.shared.right, s.1.1))))
 
@@ -35,7 +35,7 @@ returns-in-Leaf c =
     let s = subst (Suits c.args.ns.now c.args.used c.args.key) c.in-Leaf.is c.requires.suits in
     let f : c.args.used + 1 ≤ c.args.room = subst (λ (p : Plan). c.args.used + wanted p ≤ c.args.room) c.in-Leaf.is c.requires.fits in
     placed_is _ _ _ _ _ _ _ c.requires.some (placed_at c.args.ns.now c.args.used c.args.room c.args.key _ _ _ _
-    (c.link.ensures ∙ ap (λ (b : Bool). with_leaf c.args.ns.now c.args.used c.in-Leaf.end.slot b c.args.key) c.bit-at-side.ensures) (omega arith)
+    (c.link.ensures ∙ ap (λ (b : Bool). with_leaf c.args.ns.now c.args.used c.in-Leaf.end.slot b c.args.key) c.bit_at-side.ensures) (omega arith)
     (way_leaf c.args.ns.now c.args.used c.args.room c.requires.trie (omega arith) c.args.key c.requires.short c.requires.leaf (routed c.args.key c.args.hop c.requires.some) _ _ s.0
     (omega arith) c.requires.within c.requires.few (omega (arith, s.0.shared.left, s.1.0)) s.1.1))
 
@@ -44,7 +44,7 @@ returns-in-Middle c =
     let s = subst (Suits c.args.ns.now c.args.used c.args.key) c.in-Middle.is c.requires.suits in
     let f : c.args.used + 1 ≤ c.args.room = subst (λ (p : Plan). c.args.used + wanted p ≤ c.args.room) c.in-Middle.is c.requires.fits in
     placed_is _ _ _ _ _ _ _ c.requires.some (placed_at c.args.ns.now c.args.used c.args.room c.args.key _ _ _ _
-    (c.split.ensures ∙ ap (λ (b : Bool). with_split c.args.ns.now c.args.used c.in-Middle.end.slot b c.args.key) c.bit-at-side-in-Middle.ensures) (omega arith)
+    (c.split.ensures ∙ ap (λ (b : Bool). with_split c.args.ns.now c.args.used c.in-Middle.end.slot b c.args.key) c.bit_at-side-in-Middle.ensures) (omega arith)
     (way_above c.args.ns.now c.args.used c.args.room c.requires.trie (omega arith) c.args.key c.requires.short c.requires.leaf (routed c.args.key c.args.hop c.requires.some) _ _ s.0
     (omega arith) c.requires.within c.requires.few s.1.0 (omega (arith, s.0.shared.right, s.1.1))))
 

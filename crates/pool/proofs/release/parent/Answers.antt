@@ -6,8 +6,8 @@ use Rattle.pool.proofs.release.parent.Goals as goal
 pub loop-key-init : goal.loop-key-init
 loop-key-init c = (omega (arith, c.requires.slot, c.requires.lower), omega (arith, c.requires.lower), c.requires.trie.top c.args.slot c.requires.slot)
 
-pub bit-at-side-requires : goal.bit-at-side-requires
-bit-at-side-requires c =
+pub bit_at-side-requires : goal.bit_at-side-requires
+bit_at-side-requires c =
     lt_of_lt_of_le (down_len _ _ c.requires.trie c.loop-key.above c.args.slot c.loop-key.invariant.0 c.requires.slot c.loop-key.invariant.1 c.loop-key.invariant.2) (c.requires.trie.short c.args.slot c.requires.slot)
 
 pub returns-then-next-slot : goal.returns-then-next-slot
@@ -15,8 +15,8 @@ returns-then-next-slot c = record { slot = c.loop-key.invariant.0; link = sym c.
 
 step : (c : goal.Else-next-slot) → Step (at c.args.ns.now) c.args.used c.loop-key.above c.args.slot c.child-next.result
 step c =
-    down _ _ c.requires.trie c.loop-key.above c.args.slot c.child-next.result c.bit-at-side.result c.loop-key.invariant.0 c.requires.slot c.loop-key.invariant.1 c.loop-key.invariant.2
-    c.bit-at-side.ensures c.child-next.ensures
+    down _ _ c.requires.trie c.loop-key.above c.args.slot c.child-next.result c.bit_at-side.result c.loop-key.invariant.0 c.requires.slot c.loop-key.invariant.1 c.loop-key.invariant.2
+    c.bit_at-side.ensures c.child-next.ensures
 
 pub loop-key-preserved : goal.loop-key-preserved
 loop-key-preserved c = ((step c).slot, c.if-next-slot.false, (step c).under)

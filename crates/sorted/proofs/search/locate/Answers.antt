@@ -5,13 +5,13 @@ use Rattle.sorted.proofs.Entries.{held_at, absent_at}
 use Rattle.sorted.proofs.search.locate.Goals as goal
 use Rattle.sorted.proofs.search.locate.Goals.{else-i-used-via-then-i-used+else-is-for, else-i-used-via-else-i-used}
 
-pub returns-then-is-for : goal.returns-then-is-for
-returns-then-is-for c = held_at _ _ c.requires.rising _ _ c.seek-i.ensures c.if-i-used.true (equal_is _ _ (sym c.if-is-for.ensures))
+pub returns-then-is_for : goal.returns-then-is_for
+returns-then-is_for c = held_at _ _ c.requires.rising _ _ c.seek-i.ensures c.if-i-used.true (equal_is _ _ (sym c.if-is_for.ensures))
 
 pub returns-else-i-used : goal.returns-else-i-used
 returns-else-i-used c =
     absent_at _ _ c.requires.rising _ _ c.seek-i.ensures
     (λ l e. elim c.else-i-used.branch [
-      | else-i-used-via-then-i-used+else-is-for w ↦ unequal _ _ w.if-is-for.ensures e
+      | else-i-used-via-then-i-used+else-is-for w ↦ unequal _ _ w.if-is_for.ensures e
       | else-i-used-via-else-i-used w ↦ omega (arith, w.if-i-used.false)
     ])

@@ -6,22 +6,22 @@ use Rattle.trie.proofs.search.best.Goals as goal
 
 pub returns-then-not-passes : goal.returns-then-not-passes
 returns-then-not-passes c =
-    failed _ _ c.requires.trie _ _ _ _ c.loop-address.known _ _ c.loop-address.invariant c.passes.ensures c.is-some-routed.ensures c.if-not-passes.true
+    failed _ _ c.requires.trie _ _ _ _ c.loop-address.known _ _ c.loop-address.invariant c.passes.ensures c.is_some-routed.ensures c.if-not-passes.true
 
 pub returns-then-len-bound : goal.returns-then-len-bound
 returns-then-len-bound c =
-    matched_full _ _ c.requires.trie _ _ _ _ _ _ _ c.loop-address.invariant c.passes.ensures c.is-some-routed.ensures c.if-not-passes.false c.note.ensures c.if-len-bound.true
+    matched_full _ _ c.requires.trie _ _ _ _ _ _ _ c.loop-address.invariant c.passes.ensures c.is_some-routed.ensures c.if-not-passes.false c.note.ensures c.if-len-bound.true
 
 pub returns-then-next : goal.returns-then-next
 returns-then-next c =
-    matched_last _ _ c.requires.trie _ _ _ _ _ _ _ c.loop-address.invariant c.passes.ensures c.is-some-routed.ensures c.if-not-passes.false c.note.ensures
-    c.child-next.result c.bit-at.result c.bit-at.ensures c.child-next.ensures c.if-next.true
+    matched_last _ _ c.requires.trie _ _ _ _ _ _ _ c.loop-address.invariant c.passes.ensures c.is_some-routed.ensures c.if-not-passes.false c.note.ensures
+    c.child-next.result c.bit_at.result c.bit_at.ensures c.child-next.ensures c.if-next.true
 
 next : (c : goal.Else-next) → Scan (at c.args.ns.now) c.args.used (unlinked c.args.address c.args.bound None) c.child-next.result c.note.new.known
     × ((at c.args.ns.now c.loop-address.slot).len < (at c.args.ns.now c.child-next.result).len)
 next c =
-    matched_next _ _ c.requires.trie _ _ _ _ _ _ _ c.loop-address.invariant c.passes.ensures c.is-some-routed.ensures c.if-not-passes.false c.note.ensures
-    c.child-next.result c.bit-at.result c.bit-at.ensures c.child-next.ensures c.if-next.false
+    matched_next _ _ c.requires.trie _ _ _ _ _ _ _ c.loop-address.invariant c.passes.ensures c.is_some-routed.ensures c.if-not-passes.false c.note.ensures
+    c.child-next.result c.bit_at.result c.bit_at.ensures c.child-next.ensures c.if-next.false
 
 pub loop-address-preserved : goal.loop-address-preserved
 loop-address-preserved c = (next c).0

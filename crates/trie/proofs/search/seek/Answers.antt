@@ -14,14 +14,14 @@ returns-then-both-node c = way_found _ _ c.requires.trie _ _ _ _ c.loop-node.inv
 pub returns-then-next : goal.returns-then-next
 returns-then-next c = way_found _ _ c.requires.trie _ _ _ _ c.loop-node.invariant.1
     (shared_is (at c.args.ns.now c.loop-node.slot) c.args.key.now c.shared-both.result (c.requires.trie.short _ c.loop-node.invariant.1.slot) c.requires.short c.shared-both.ensures)
-    (λ e l. ap (λ (s : Bool). child s (at c.args.ns.now c.loop-node.slot)) (sym c.bit-at.ensures) ∙ sym c.child-next.ensures ∙ c.if-next.true)
+    (λ e l. ap (λ (s : Bool). child s (at c.args.ns.now c.loop-node.slot)) (sym c.bit_at.ensures) ∙ sym c.child-next.ensures ∙ c.if-next.true)
 
 next : (c : goal.Else-next) → (Way (at c.args.ns.now) c.args.used c.args.key.now c.child-next.result (suc (at c.args.ns.now c.loop-node.slot).len))
     × ((at c.args.ns.now c.loop-node.slot).len < (at c.args.ns.now c.child-next.result).len)
 next c = way_next _ _ c.requires.trie _ c.loop-node.slot _ c.shared-both.result c.child-next.result c.loop-node.invariant.1
     (shared_is (at c.args.ns.now c.loop-node.slot) c.args.key.now c.shared-both.result (c.requires.trie.short _ c.loop-node.invariant.1.slot) c.requires.short c.shared-both.ensures)
     c.if-both-node.false c.if-both-key.false
-    (c.child-next.ensures ∙ ap (λ (s : Bool). child s (at c.args.ns.now c.loop-node.slot)) c.bit-at.ensures) c.if-next.false
+    (c.child-next.ensures ∙ ap (λ (s : Bool). child s (at c.args.ns.now c.loop-node.slot)) c.bit_at.ensures) c.if-next.false
 
 pub loop-node-smaller : goal.loop-node-smaller
 loop-node-smaller c =

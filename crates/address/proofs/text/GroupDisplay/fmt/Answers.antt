@@ -13,6 +13,6 @@ same a b c d w x y z p q r s = cc
 pub returns-clause-writes : goal.returns-clause-writes
 returns-clause-writes g c = λ plain ok.
     subst (λ bs. HasWritten g.W.Write.write_str_gives c.args.f.now bs c.write.new.self)
-    (four _ _ _ _ c.hex-digit-a.ensures.1 c.hex-digit-b.ensures.1 c.hex-digit-c.ensures.1 c.hex-digit-d.ensures.1
-    ∙ same _ _ _ _ _ _ _ _ c.hex-digit-a.ensures.0 c.hex-digit-b.ensures.0 c.hex-digit-c.ensures.0 c.hex-digit-d.ensures.0)
+    (four _ _ _ _ c.hex_digit-a.ensures.1 c.hex_digit-b.ensures.1 c.hex_digit-c.ensures.1 c.hex_digit-d.ensures.1
+    ∙ same _ _ _ _ _ _ _ _ c.hex_digit-a.ensures.0 c.hex_digit-b.ensures.0 c.hex_digit-c.ensures.0 c.hex_digit-d.ensures.0)
     (c.write.ensures.writes plain ok)

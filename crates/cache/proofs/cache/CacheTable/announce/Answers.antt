@@ -12,11 +12,11 @@ returns g c =
     let t = g.T.Table in
     let p = g.T.Addr.Address.pbits c.args.prefix in
     let act = announce (g.T.Addr.Address.pbits c.args.prefix) (g.T.Addr.Address.bits c.args.hop) in
-    let k = c.announce-below.ensures in
+    let k = c.announce_below.ensures in
     let f = step_of k.does in
     let es = as_slots g.T.Addr.Address.bits s.slots in
-    let left = as_slots g.T.Addr.Address.bits c.announce-below.new.self.slots in
-    let e = k.slots ∙ update_leaves act p (λ a. refl) es c.announce-below.result in
+    let left = as_slots g.T.Addr.Address.bits c.announce_below.new.self.slots in
+    let e = k.slots ∙ update_leaves act p (λ a. refl) es c.announce_below.result in
     record {
       valid = (k.below, current_acted _ _ _ _ es left (t.local s.inner) e f c.requires.1, record { few = omega (arith, k.count, c.requires.2.few); all = k.all });
       does = rw k.count (does_of (cache_act s.count es _ (t.described s.inner) _ _ _ left e f));

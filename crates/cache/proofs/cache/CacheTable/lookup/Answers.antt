@@ -13,15 +13,15 @@ use Rattle.cache.specs.Entries.{as_slot, as_slots, answer_in, as_hit}
 use Rattle.cache.proofs.Caches.{same_cache, answer_there, answer_not, by_held}
 use Rattle.cache.proofs.cache.CacheTable.lookup.Goals as goal
 
-pub returns-then-not-in-full : goal.returns-then-not-in-full
-returns-then-not-in-full g c =
+pub returns-then-not-in_full : goal.returns-then-not-in_full
+returns-then-not-in_full g c =
     let s = c.args.self.now in
     let t = g.T.Table in
     let f = step_of c.lookup.ensures.does in
     let es = as_slots g.T.Addr.Address.bits s.slots in
     record {
       valid = (c.lookup.ensures.valid, current_looked _ _ es f c.requires.1, c.requires.2);
-      does = does_of (cache_past s.count es _ (t.described s.inner) _ _ _ (sym c.if-not-in-full.ensures) f);
+      does = does_of (cache_past s.count es _ (t.described s.inner) _ _ _ (sym c.if-not-in_full.ensures) f);
       refused = λ e. same_cache _ _ (c.lookup.ensures.refused e) refl refl;
     }
 
@@ -34,14 +34,14 @@ returns g c =
     let b = as_slot bits in
     let a = bits c.args.address in
     let es = as_slots bits s.slots in
-    let full = sym c.if-not-in-full.ensures in
+    let full = sym c.if-not-in_full.ensures in
     let whole = full_bound s.count a c.args.bound full in
-    let l : c.slot-of-i.result < length s.slots = omega (arith, c.slot-of-i.ensures.below, c.requires.2.few, c.requires.2.all) in
-    let i = c.slot-of-i.ensures.which in
+    let l : c.slot_of-i.result < length s.slots = omega (arith, c.slot_of-i.ensures.below, c.requires.2.few, c.requires.2.all) in
+    let i = c.slot_of-i.ensures.which in
     let x = at t.planes t.view t.room t.stack s.inner in
     let y = at t.planes t.view t.room t.stack z.inner in
     let read = slot_read b s.slots _ _ c.index-self-i.result i l in
-    by_held (λ o. as_hit bits o ≡ answer_in (b (get_or s.slots c.slot-of-i.result c.index-self-i.result)) a)
+    by_held (λ o. as_hit bits o ≡ answer_in (b (get_or s.slots c.slot_of-i.result c.index-self-i.result)) a)
     (λ q. Does t.planes t.view t.room t.stack s.inner z.inner (lookup a c.args.bound) (of_lookup bits q))
     _ _ c.answered.result c.hit-held.result c.hit-held.ensures c.answered.ensures.answered
     (λ w e h k.
@@ -54,7 +54,7 @@ returns g c =
     })
     (λ w e h d k.
     let f = step_of d in
-    let m = ap (λ (e : Slot). holds_address e a) read ∙ answer_not (b (get_or s.slots c.slot-of-i.result c.index-self-i.result)) a h in
+    let m = ap (λ (e : Slot). holds_address e a) read ∙ answer_not (b (get_or s.slots c.slot_of-i.result c.index-self-i.result)) a h in
     let new = ap (as_slots bits) k ∙ slot_written b s.slots _ _ (Some (record { address = c.args.address; answer = w })) i in
     let fresh = found_now s.count es x (t.described s.inner) y a _ _ whole f in
     record {

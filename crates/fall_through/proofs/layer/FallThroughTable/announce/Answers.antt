@@ -8,11 +8,11 @@ returns g c =
     let u = g.U.Table in
     let l = g.L.Table in
     let s = c.args.self.now in
-    let t = c.announce-in.new.self in
+    let t = c.announce_in.new.self in
     let p = c.locate-place.result in
-    let f = c.announce-in.ensures.passed in
+    let f = c.announce_in.ensures.passed in
     record {
-      valid = (c.announce-in.ensures.upper, c.announce-in.ensures.lower, omega (arith, c.requires.2, same_count u.planes u.view u.room u.stack l.planes l.view l.room l.stack s.upper t.upper s.lower t.lower c.args.plane c.plane-count.result _ _ p f));
-      does = does_of (passed_on u.planes u.view u.room u.stack l.planes l.view l.room l.stack s.upper t.upper s.lower t.lower c.args.plane c.plane-count.result _ _ p (u.described s.upper) c.plane-count.ensures c.locate-place.ensures f);
-      refused = c.announce-in.ensures.refused;
+      valid = (c.announce_in.ensures.upper, c.announce_in.ensures.lower, omega (arith, c.requires.2, same_count u.planes u.view u.room u.stack l.planes l.view l.room l.stack s.upper t.upper s.lower t.lower c.args.plane c.plane_count.result _ _ p f));
+      does = does_of (passed_on u.planes u.view u.room u.stack l.planes l.view l.room l.stack s.upper t.upper s.lower t.lower c.args.plane c.plane_count.result _ _ p (u.described s.upper) c.plane_count.ensures c.locate-place.ensures f);
+      refused = c.announce_in.ensures.refused;
     }

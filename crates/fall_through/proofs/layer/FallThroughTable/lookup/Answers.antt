@@ -8,10 +8,10 @@ returns g c =
     let u = g.U.Table in
     let l = g.L.Table in
     let s = c.args.self.now in
-    let t = c.lookup-through.new.self in
+    let t = c.lookup_through.new.self in
     let bits = g.U.Addr.Address.bits in
-    let k = c.lookup-through.ensures in
-    let r = c.lookup-through.result in
+    let k = c.lookup_through.ensures in
+    let r = c.lookup_through.result in
     record {
       valid = (k.upper, k.lower, omega (arith, c.requires.2, same_planes bits u.planes u.view u.room u.stack l.planes l.view l.room l.stack s.upper t.upper s.lower t.lower (bits c.args.address) c.args.bound r k.fallen));
       does = does_of (fell bits u.planes u.view u.room u.stack l.planes l.view l.room l.stack s.upper t.upper s.lower t.lower (bits c.args.address) c.args.bound r (u.described s.upper) k.fallen);

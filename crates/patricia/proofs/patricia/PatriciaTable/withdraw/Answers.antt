@@ -15,11 +15,11 @@ returns-in-Some g c =
     let was = c.args.self.now in
     let new = c.remove.new.ns in
     let long : length new ≡ length was.nodes.now = c.remove.auto.ns in
-    let out = subst (λ (q : Bits). Withdrawn was.nodes.now was.used q new (Some c.in-Some.used)) c.key-of-key.ensures.prefix c.in-Some.ensures in
+    let out = subst (λ (q : Bits). Withdrawn was.nodes.now was.used q new (Some c.in-Some.used)) c.key_of-key.ensures.prefix c.in-Some.ensures in
     record {
       valid = withdrawn_good _ _ _ c.requires _ _ _ long out;
       does = single_does (λ s. routes g.A.Address.width s.used s.nodes.now) (λ s. nodes_room (length s.nodes.now)) _ _ _ _ (ap nodes_room long)
-          (withdrawn _ _ _ c.requires _ _ _ _ (eqb-true _ _ (sym c.if-not-has-plane.ensures)) out);
+          (withdrawn _ _ _ c.requires _ _ _ _ (eqb-true _ _ (sym c.if-not-has_plane.ensures)) out);
       refused = λ e. absurd (true≢false e);
     }
 
@@ -28,10 +28,10 @@ returns-in-None g c =
     let was = c.args.self.now in
     let new = c.remove.new.ns in
     let same : new ≡ was.nodes.now = c.in-None.ensures.0 in
-    let kept = subst (λ (q : Bits). Withdrawn was.nodes.now was.used q new None) c.key-of-key.ensures.prefix c.in-None.ensures in
+    let kept = subst (λ (q : Bits). Withdrawn was.nodes.now was.used q new None) c.key_of-key.ensures.prefix c.in-None.ensures in
     record {
       valid = subst (λ (ns : List Node). WellFormed g.A.Address.width was.used ns) (sym same) c.requires;
       does = single_does (λ s. routes g.A.Address.width s.used s.nodes.now) (λ s. nodes_room (length s.nodes.now)) _ _ _ _ (ap (λ (ns : List Node). nodes_room (length ns)) same)
-          (not_held _ _ _ c.requires _ _ _ (eqb-true _ _ (sym c.if-not-has-plane.ensures)) kept);
+          (not_held _ _ _ c.requires _ _ _ (eqb-true _ _ (sym c.if-not-has_plane.ensures)) kept);
       refused = λ e i. record { nodes = record { ref_ptr = was.nodes.ref_ptr; ghost_name = was.nodes.ghost_name; now = same i }; used = was.used; kind = was.kind };
     }

@@ -20,7 +20,7 @@ returns-in-Some g c =
     record {
       valid = removed_good _ _ _ c.requires _ _ _ long c.in-Some.ensures;
       does = single_does (λ s. routes g.A.Address.width s.used s.rows.now) (λ s. rows_room (length s.rows.now)) _ _ _ _ (ap rows_room long)
-          (withdrawn _ _ _ c.requires _ _ _ _ _ (eqb-true _ _ (sym c.if-not-has-plane.ensures)) key c.in-Some.ensures);
+          (withdrawn _ _ _ c.requires _ _ _ _ _ (eqb-true _ _ (sym c.if-not-has_plane.ensures)) key c.in-Some.ensures);
       refused = λ e. absurd (true≢false e);
     }
 
@@ -32,6 +32,6 @@ returns-in-None g c =
     record {
       valid = subst (λ (rows : List Row). WellFormed g.A.Address.width c.args.self.now.used rows) (sym same) c.requires;
       does = single_does (λ s. routes g.A.Address.width s.used s.rows.now) (λ s. rows_room (length s.rows.now)) _ _ _ _ (ap (λ (rows : List Row). rows_room (length rows)) same)
-          (not_held _ _ _ c.requires _ _ _ _ (eqb-true _ _ (sym c.if-not-has-plane.ensures)) key c.in-None.ensures);
+          (not_held _ _ _ c.requires _ _ _ _ (eqb-true _ _ (sym c.if-not-has_plane.ensures)) key c.in-None.ensures);
       refused = λ e i. record { rows = record { ref_ptr = c.args.self.now.rows.ref_ptr; ghost_name = c.args.self.now.rows.ghost_name; now = same i }; used = c.args.self.now.used; kind = c.args.self.now.kind };
     }

@@ -12,17 +12,17 @@ use Rattle.address.proofs.ipv6.address.Ipv6Address.prefix.Goals as goal
 reads : (h : Halves) (a : Ipv6) → h ≡ halves6 a → front 128 h ≡ paired a.hi a.lo
 reads h a e = ap (front 128) e ∙ paired_front (halves6 a) ∙ paired_rest a.hi a.lo
 
-pub check-prefix-requires : goal.check-prefix-requires
-check-prefix-requires c = record { narrow = lit≤ tt; clear = aligned_whole c.to-halves.result }
+pub check_prefix-requires : goal.check_prefix-requires
+check_prefix-requires c = record { narrow = lit≤ tt; clear = aligned_whole c.to_halves.result }
 
-pub returns-in-err-check-prefix : goal.returns-in-err-check-prefix
-returns-in-err-check-prefix c =
+pub returns-in_err-check_prefix : goal.returns-in_err-check_prefix
+returns-in_err-check_prefix c =
     let p = err_from_is_err_and c.from-residual.result c.from-residual.ensures.1 in
-    rw (p.1, p.2) (checked_err_at _ _ _ _ (reads _ c.args.self c.to-halves.ensures) c.in-err-check-prefix.ensures)
+    rw (p.1, p.2) (checked_err_at _ _ _ _ (reads _ c.args.self c.to_halves.ensures) c.in_err-check_prefix.ensures)
 
 pub of-requires : goal.of-requires
 of-requires c =
-    let ok = checked_ok_at _ _ _ (reads _ c.args.self c.to-halves.ensures) c.in-ok-check-prefix.ensures in
+    let ok = checked_ok_at _ _ _ (reads _ c.args.self c.to_halves.ensures) c.in_ok-check_prefix.ensures in
     let f = checked_ok (paired c.args.self.hi c.args.self.lo) c.args.len _ ok in
     record { within = rw (paired_length c.args.self.hi c.args.self.lo) at f.0; zeros = f.1 }
 
@@ -30,4 +30,4 @@ pub returns : goal.returns
 returns c =
     let r = c.of.result in
     ap (λ (a : Ipv6). Ok (take r.len (paired a.hi a.lo))) c.of.ensures.0 ∙ ap (λ n. Ok (take n (paired c.args.self.hi c.args.self.lo))) c.of.ensures.1
-    ∙ checked_ok_at _ _ _ (reads _ c.args.self c.to-halves.ensures) c.in-ok-check-prefix.ensures
+    ∙ checked_ok_at _ _ _ (reads _ c.args.self c.to_halves.ensures) c.in_ok-check_prefix.ensures

@@ -9,26 +9,26 @@ use Rattle.bits.proofs.Narrow.{halves_aligned, halves_front}
 use Rattle.address.proofs.Checked.{checked_ok, checked_ok_at, checked_err_at}
 use Rattle.kind48.proofs.mac.address.Mac48Address.prefix.Goals as goal
 
-pub check-prefix-requires : goal.check-prefix-requires
-check-prefix-requires c = record { narrow = lit≤ tt; clear = halves_aligned 48 _ (c.args.self.bits % 2 ^ 48) (lit≤ tt) c.to-halves.ensures }
+pub check_prefix-requires : goal.check_prefix-requires
+check_prefix-requires c = record { narrow = lit≤ tt; clear = halves_aligned 48 _ (c.args.self.bits % 2 ^ 48) (lit≤ tt) c.to_halves.ensures }
 
 -- the halves of the number's low bits
 reads : (h : Halves) (x : ℕ) → h ≡ lifted 48 (x % 2 ^ 48) → front 48 h ≡ low_bits 48 x
 reads h x e = halves_front 48 h (x % 2 ^ 48) (lit≤ tt) e ∙ low_mod 48 x
 
-pub returns-in-err-check-prefix : goal.returns-in-err-check-prefix
-returns-in-err-check-prefix c =
+pub returns-in_err-check_prefix : goal.returns-in_err-check_prefix
+returns-in_err-check_prefix c =
     let p = err_from_is_err_and c.from-residual.result c.from-residual.ensures.1 in
-    rw (p.1, p.2) (checked_err_at _ _ _ _ (reads _ c.args.self.bits c.to-halves.ensures) c.in-err-check-prefix.ensures)
+    rw (p.1, p.2) (checked_err_at _ _ _ _ (reads _ c.args.self.bits c.to_halves.ensures) c.in_err-check_prefix.ensures)
 
 pub invariant-of-result : goal.invariant-of-result
 invariant-of-result c =
     let x : ℕ = c.args.self.bits % 2 ^ 48 in
-    let ok = checked_ok_at _ _ _ (halves_front 48 _ x (lit≤ tt) c.to-halves.ensures) c.in-ok-check-prefix.ensures in
+    let ok = checked_ok_at _ _ _ (halves_front 48 _ x (lit≤ tt) c.to_halves.ensures) c.in_ok-check_prefix.ensures in
     let f = checked_ok (low_bits 48 x) c.args.len _ ok in
     (rest_bound 48 c.args.self.bits, (rw (low_length 48 x) at f.0, (f.1, tt)))
 
 pub returns : goal.returns
 returns c =
     ap (λ (s : Bits). Ok (take c.args.len s)) (low_mod 48 c.args.self.bits)
-    ∙ checked_ok_at _ _ _ (reads _ c.args.self.bits c.to-halves.ensures) c.in-ok-check-prefix.ensures
+    ∙ checked_ok_at _ _ _ (reads _ c.args.self.bits c.to_halves.ensures) c.in_ok-check_prefix.ensures
