@@ -17,7 +17,7 @@ check_prefix-requires c = record { narrow = lit≤ tt; clear = aligned_whole c.t
 
 pub returns-in_err-check_prefix : goal.returns-in_err-check_prefix
 returns-in_err-check_prefix c =
-    let p = err_from_is_err_and c.from-residual.result c.from-residual.ensures.1 in
+    let p = err_from_is_err_and c.from_residual.result c.from_residual.ensures.1 in
     rw (p.1, p.2) (checked_err_at _ _ _ _ (reads _ c.args.self c.to_halves.ensures) c.in_err-check_prefix.ensures)
 
 pub of-requires : goal.of-requires

@@ -18,7 +18,7 @@ reads h x e = halves_front 48 h (x % 2 ^ 48) (lit≤ tt) e ∙ low_mod 48 x
 
 pub returns-in_err-check_prefix : goal.returns-in_err-check_prefix
 returns-in_err-check_prefix c =
-    let p = err_from_is_err_and c.from-residual.result c.from-residual.ensures.1 in
+    let p = err_from_is_err_and c.from_residual.result c.from_residual.ensures.1 in
     rw (p.1, p.2) (checked_err_at _ _ _ _ (reads _ c.args.self.bits c.to_halves.ensures) c.in_err-check_prefix.ensures)
 
 pub invariant-of-result : goal.invariant-of-result
