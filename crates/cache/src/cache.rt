@@ -34,8 +34,8 @@ impl<T: Table> Cache<T> {
         ensures planes { T.Table.planes result.inner ≡ T.Table.planes inner }
         ensures view { T.Table.view result.inner ≡ T.Table.view inner }
         ensures room { T.Table.room result.inner ≡ T.Table.room inner }
-        ensures stack { cache result.count (as_slots Addr-as-Address.bits result.slots) (T.Table.stack result.inner) ≡ cache (min count 4096) (replicate 4096 None) (T.Table.stack inner) }
-        ensures valid { T.Table.valid inner → T.Table.valid result.inner × AllUpToDate (T.Table.view result.inner (T.Table.planes result.inner)) (as_slots Addr-as-Address.bits result.slots) × Sized result.count result.slots }
+        ensures stack { cache result.count (as_slots T.Addr.bits result.slots) (T.Table.stack result.inner) ≡ cache (min count 4096) (replicate 4096 None) (T.Table.stack inner) }
+        ensures valid { T.Table.valid inner → T.Table.valid result.inner × AllUpToDate (T.Table.view result.inner (T.Table.planes result.inner)) (as_slots T.Addr.bits result.slots) × Sized result.count result.slots }
     {
         Cache {
             inner,

@@ -116,8 +116,8 @@ impl<T: Table> Forwarding<T> {
     // Covers the stack with an empty cache of `count` slots, at most 4,096; the state stays.
     pub fn cover(self, count: usize) -> Forwarding<Cache<T>>
         ensures below { result.table.inner ≡ self.table }
-        ensures slots { (result.table.count ≡ min count 4096) × (as_slots Addr-as-Address.bits result.table.slots ≡ replicate 4096 None) }
-        ensures valid { T.Table.valid self.table → T.Table.valid result.table.inner × AllUpToDate (T.Table.view result.table.inner (T.Table.planes result.table.inner)) (as_slots Addr-as-Address.bits result.table.slots) × Sized result.table.count result.table.slots }
+        ensures slots { (result.table.count ≡ min count 4096) × (as_slots T.Addr.bits result.table.slots ≡ replicate 4096 None) }
+        ensures valid { T.Table.valid self.table → T.Table.valid result.table.inner × AllUpToDate (T.Table.view result.table.inner (T.Table.planes result.table.inner)) (as_slots T.Addr.bits result.table.slots) × Sized result.table.count result.table.slots }
     {
         let Forwarding { table } = self;
         Forwarding {

@@ -6,7 +6,7 @@ use Rattle.trie.proofs.Rooms.{slot_holds}
 use Rattle.trie.proofs.Pruning.{exact_key}
 use Rattle.trie.proofs.Exact.{both_equal, none_seen, unequal}
 use Rattle.trie.proofs.search.locate.Goals as goal
-use Rattle.trie.proofs.search.locate.Goals.{else-is-exact-via-else-is-exact, else-is-exact-via-then-is-exact+else-is-some}
+use Rattle.trie.proofs.search.locate.Goals.{else-is_exact-via-else-is_exact, else-is_exact-via-then-is_exact+else-is_some}
 
 pub returns-then-is_some : goal.returns-then-is_some
 returns-then-is_some c =
@@ -18,9 +18,9 @@ returns-then-is_some c =
 
 pub returns-else-is_exact : goal.returns-else-is_exact
 returns-else-is_exact c = elim c.else-is_exact.branch [
-  | else-is-exact-via-else-is-exact w ↦
+  | else-is_exact-via-else-is_exact w ↦
       holds_none _ _ c.requires.trie.within _ (found_none _ _ c.requires.trie.trie _ _ _ c.requires.short c.seek-end.ensures (unequal _ _ _ _ c.is_exact.ensures w.if-is_exact.false))
-  | else-is-exact-via-then-is-exact+else-is-some w ↦
+  | else-is_exact-via-then-is_exact+else-is_some w ↦
       (let e : (c.seek-end.result.shared ≡ (at c.args.ns.now c.seek-end.result.slot).len) × (c.seek-end.result.shared ≡ c.args.key.now.len) = both_equal _ _ _ _ c.is_exact.ensures w.if-is_exact.true in
       let k : key (at c.args.ns.now c.seek-end.result.slot) ≡ key c.args.key.now = exact_key _ _ c.requires.trie _ _ _ c.seek-end.ensures (omega (arith, e.0)) (omega (arith, e.1)) in
       ap (Rattle.trie.specs.Nodes.holds c.args.ns.now c.args.used) (sym k) ∙ slot_holds _ _ c.requires.trie _ c.seek-end.ensures.slot ∙ none_seen _ (sym w.is_some.ensures ∙ w.if-is_some.false))

@@ -10,10 +10,10 @@ use Rattle.sorted.proofs.Planes.{proper_at}
 use Rattle.sorted.proofs.Nth.{nth_here, nth_past, row_checked, ok_is, err_not}
 use Rattle.sorted.proofs.list.Sorted.route.Goals as goal
 
-pub returns-in-default : goal.returns-in-default
-returns-in-default g c =
+pub returns-in_default : goal.returns-in_default
+returns-in_default g c =
     let s = c.args.self.now in
-    sym (nth_past g.A.Address.width s.used s.rows.now c.args.i c.in-default.ensures)
+    sym (nth_past g.A.Address.width s.used s.rows.now c.args.i c.in_default.ensures)
 
 pub hop_in-hop-requires : goal.hop_in-hop-requires
 hop_in-hop-requires g c = subst (λ (row : Row). Aligned g.A.Address.width row.hop) (sym c.in-Some.ensures.1) (proper_at _ _ _ c.requires _ c.in-Some.ensures.0).hop_clear

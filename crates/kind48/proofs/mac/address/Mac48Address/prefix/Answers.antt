@@ -21,8 +21,8 @@ returns-in_err-check_prefix c =
     let p = err_from_is_err_and c.from_residual.result c.from_residual.ensures.1 in
     rw (p.1, p.2) (checked_err_at _ _ _ _ (reads _ c.args.self.bits c.to_halves.ensures) c.in_err-check_prefix.ensures)
 
-pub invariant-of-result : goal.invariant-of-result
-invariant-of-result c =
+pub invariant_of-result : goal.invariant_of-result
+invariant_of-result c =
     let x : ℕ = c.args.self.bits % 2 ^ 48 in
     let ok = checked_ok_at _ _ _ (halves_front 48 _ x (lit≤ tt) c.to_halves.ensures) c.in_ok-check_prefix.ensures in
     let f = checked_ok (low_bits 48 x) c.args.len _ ok in
