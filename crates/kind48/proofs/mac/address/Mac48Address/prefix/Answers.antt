@@ -26,7 +26,7 @@ invariant_of-result c =
     let x : ℕ = c.args.self.bits % 2 ^ 48 in
     let ok = checked_ok_at _ _ _ (halves_front 48 _ x (lit≤ tt) c.to_halves.ensures) c.in_ok-check_prefix.ensures in
     let f = checked_ok (low_bits 48 x) c.args.len _ ok in
-    (rest_bound 48 c.args.self.bits, (rw (low_length 48 x) at f.0, (f.1, tt)))
+    record { small = rest_bound 48 c.args.self.bits; within = rw (low_length 48 x) at f.0; zeros = f.1 }
 
 pub returns : goal.returns
 returns c =
