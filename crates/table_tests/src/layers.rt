@@ -204,7 +204,7 @@ macro_rules! check_slots {
         run(&mut stack, exchanges.as_mut_slice());
         compare(exchanges.as_slice(), &steps)?;
         for (i, address) in $filled {
-            check_eq(slot!(stack, i), address)?;
+            assert_eq!($rt; slot!(stack, i), address);
         }
     }};
 }

@@ -26,9 +26,17 @@ pub fn compare<A: Copy + PartialEq + fmt::Debug + Drop, P: Copy>(
     exchanges: &[Exchange<A, P>],
     steps: &[(Call<A, P>, Reply<A>)],
 ) -> Result<(), Fail> {
-    assert_eq!(exchanges.len(), steps.len());
+    if exchanges.len() != steps.len() {
+        return Err(Fail::new("there are not as many replies as calls"));
+    }
     for (exchange, step) in exchanges.iter().zip(steps.iter()) {
-        assert_eq!(exchange.reply, Some(step.1));
+        let due = Some(step.1);
+        if exchange.reply != due {
+            return Err(Fail::new(format_args!(
+                "the reply is {:?} and not {due:?}",
+                exchange.reply
+            )));
+        }
     }
     Ok(())
 }

@@ -52,7 +52,7 @@ macro_rules! cache_on_top {
                 let mut stack = Cache::new(both, SLOTS);
                 walk($rt, &mut stack, calls.as_slice())
             }
-            Err(_) => Err("more than eight planes".into()),
+            Err(_) => Err(anyhow!("more than eight planes")),
         }
     }};
 }
@@ -72,7 +72,7 @@ macro_rules! filter_on_top {
                 let mut stack = Filter::new(Cache::new(both, SLOTS), policy);
                 walk($rt, &mut stack, calls.as_slice())
             }
-            Err(_) => Err("more than eight planes".into()),
+            Err(_) => Err(anyhow!("more than eight planes")),
         }
     }};
 }
@@ -90,7 +90,7 @@ macro_rules! caches_below {
         let filtered = Filter::new(upper, policy);
         match FallThrough::new(Cache::new(filtered, SLOTS), Cache::new(lower, SLOTS)) {
             Ok(mut stack) => walk($rt, &mut stack, calls.as_slice()),
-            Err(_) => Err("more than eight planes".into()),
+            Err(_) => Err(anyhow!("more than eight planes")),
         }
     }};
 }

@@ -54,7 +54,7 @@ macro_rules! trie_over_list {
                 let mut stack = Cache::new(both, SLOTS);
                 walk($rt, &mut stack, calls.as_slice())
             }
-            Err(_) => Err("more than eight planes".into()),
+            Err(_) => Err(anyhow!("more than eight planes")),
         }
     }};
 }
