@@ -1,7 +1,7 @@
 ghost use Rattle.std.specs.Prelude.{◌≡◌, ◌^◌, ◌<◌, ◌≤◌, true, drop, MatchOption};
 ghost use Rattle.bits.specs.Halves.{clear, low_bits};
 
-pub mod address;
+pub mod address_kind;
 
 // How many addresses of 48 bits there are.
 const ADDRESSES: u64 = 1 << 48;

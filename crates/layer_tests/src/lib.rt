@@ -2,7 +2,7 @@
 #![tactic(auto)]
 
 #[cfg(test)]
-mod kind48;
+mod mac48;
 #[cfg(test)]
 mod planes;
 #[cfg(test)]

@@ -7,7 +7,7 @@ use Rattle.bits.specs.declared.halves.Halves.{Halves}
 use Rattle.bits.proofs.LowBits.{low_length, low_mod, rest_bound}
 use Rattle.bits.proofs.Narrow.{halves_aligned, halves_front}
 use Rattle.address.proofs.Checked.{checked_ok, checked_ok_at, checked_err_at}
-use Rattle.kind48.proofs.mac.address.Mac48Address.prefix.Goals as goal
+use Rattle.kind48.proofs.mac.address_kind.Mac48Address.prefix.Goals as goal
 
 pub check_prefix-requires : goal.check_prefix-requires
 check_prefix-requires c = record { narrow = lit≤ tt; clear = halves_aligned 48 _ (c.args.self.bits % 2 ^ 48) (lit≤ tt) c.to_halves.ensures }
