@@ -8,7 +8,7 @@ ghost use Rattle.fall_through.specs.Lookups.{Fallen};
 ghost use Rattle.fall_through.specs.Makers.{Made};
 ghost use Rattle.fall_through.specs.Places.{Passed};
 
-use crate::place::{Place, few_enough, locate, together};
+use crate::place::{Place, few_enough, locate, stands, together};
 use crate::refusal::TooManyPlanes;
 use address::kind::Address;
 use table::calls::Refusal;
@@ -173,10 +173,13 @@ impl<U: Table, L: Table<Addr = U::Addr>> FallThrough<U, L> {
         ensures fallen { Fallen result (λ y. Does U.Table.planes U.Table.view U.Table.room U.Table.stack self.old.upper self.new.upper (lookup (U.Addr.Address.bits address) bound) (of_lookup U.Addr.Address.bits y)) (λ y. Does L.Table.planes L.Table.view L.Table.room L.Table.stack self.old.lower self.new.lower (lookup (U.Addr.Address.bits address) bound) (of_lookup U.Addr.Address.bits y)) (self.new.upper ≡ self.old.upper) (self.new.lower ≡ self.old.lower) }
     {
         match self.upper.lookup(address, bound) {
-            Ok(answer) => match answer {
-                Some(route) => Ok(Some(route)),
-                None => self.lower.lookup(address, bound),
-            },
+            Ok(answer) => {
+                if stands(answer) {
+                    Ok(answer)
+                } else {
+                    self.lower.lookup(address, bound)
+                }
+            }
             Err(refusal) => Err(refusal),
         }
     }

@@ -1,4 +1,4 @@
-ghost use Rattle.std.specs.Prelude.{◌≡◌, ◌+◌, ◌≤◌, nat_le};
+ghost use Rattle.std.specs.Prelude.{◌≡◌, ◌+◌, ◌≤◌, is_some, nat_le};
 ghost use Rattle.fall_through.specs.Places.{Placed};
 
 // A table has at most so many planes.
@@ -38,4 +38,11 @@ pub(crate) fn few_enough(upper: u16, lower: u16) -> bool
     ensures { result ≡ nat_le (upper + lower) 8 }
 {
     together(upper, lower) <= MOST_PLANES
+}
+
+// Whether the upper table's answer stands: the lower is asked only where it is none.
+pub(crate) fn stands<A: Copy>(answer: Option<(u8, A)>) -> bool
+    ensures { result ≡ is_some answer }
+{
+    answer.is_some()
 }

@@ -10,7 +10,9 @@ use Rattle.model.proofs.Places.{Below, after_else, above_from, put_there, remove
 use Rattle.model.proofs.Edits.{take_set_within, map_inserted, map_removed, opened_takes, closed_takes}
 use Rattle.sorted.specs.declared.row.Row.{Row}
 use Rattle.sorted.specs.Rows.{unused, key, entry_of, entries}
-use Rattle.sorted.specs.Places.{at, InOrder, StandsAt, HeldAt, AbsentAt}
+use Rattle.sorted.specs.declared.search.Place.{Place}
+use Rattle.sorted.specs.declared.search.Place.TheVariants.{Held, Absent}
+use Rattle.sorted.specs.Places.{at, InOrder, StandsAt, Located, HeldAt, AbsentAt, InMap}
 use Rattle.sorted.proofs.Orderly.{entries_length, entry_at}
 
 module _ (n : ℕ) (rows : List Row) (good : InOrder n rows) where
@@ -71,3 +73,8 @@ module _ (n : ℕ) (rows : List Row) (good : InOrder n rows) where
           ∙ ap (λ q. insert m i (route q row)) k
           ∙ sym (put_between m i p row (omega (arith, s.within, long)) (below p i s) (above f));
     }
+
+-- where a prefix is among the rows is where it is in their map
+pub in_map : (n : ℕ) (rows : List Row) → InOrder n rows → (p : Bits) (x : Place) → Located rows n p x → InMap rows n p x
+in_map n rows good p (Held i) s = held_at n rows good p i s.1 s.0 s.2
+in_map n rows good p (Absent i) s = absent_at n rows good p i s.0 s.1

@@ -37,10 +37,13 @@ all_rows P [] a = tt
 all_rows P (x ∷ xs) a = (a.0, all_rows P xs a.1)
 
 -- from the map of the rows to the plane
+-- each row in use holds one route
+pub each_one : (w n : ℕ) (rows : List Row) → WellFormed w n rows → n ≡ length (routes w n rows)
+each_one w n rows good = sym (length-map (take n rows) (route_of w) ∙ length-take-le n rows (omega (arith, good.few)))
+
 from_entries : (w n : ℕ) (rows : List Row) → n ≤ usable (length rows) → Rising (entries n rows) → All (λ r. RowOk w r.value) (entries n rows) → WellFormed w n rows
 from_entries w n rows l g a = record {
   few = l;
-  each = length-map (take n rows) (route_of w) ∙ length-take-le n rows (omega arith);
   rising = subst Rising (sym (routes_are w n rows)) (rising_mapped (hop_of w) (entries n rows) g);
   proper = all_rows (RowOk w) (take n rows) a;
 }

@@ -23,6 +23,11 @@ pub record StandsAt (rows : List Row) (n : ℕ) (p : Bits) (i : ℕ) : Type 0 wh
   pub earlier : (k : ℕ) → k < i → order (key (at rows k)) p ≡ before
   pub later : (k : ℕ) → i ≤ k → k < n → order (key (at rows k)) p ≢ before
 
+-- where p is: in the row at its place, or in none
+abbrev pub Located : List Row → ℕ → Bits → Place → Type 0
+Located rows n p (Held i) = (i < n) × StandsAt rows n p i × (key (at rows i) ≡ p)
+Located rows n p (Absent i) = StandsAt rows n p i × (i < n → key (at rows i) ≢ p)
+
 -- the row's prefix covers the address a and is no longer than the bound b
 abbrev pub matching : Bits → ℕ → Row → Bool
 matching a b row = nat_le row.len b && covers (key row) a
@@ -74,10 +79,10 @@ pub record AbsentAt (rows : List Row) (n : ℕ) (p : Bits) (i : ℕ) : Type 0 wh
   pub nothing : held (entries n rows) p ≡ None
   pub entered : (row : Row) (new : List Row) (count : ℕ) → n < length rows → key row ≡ p → PutIn i n row rows new count → entries count new ≡ put (entries n rows) p row
 
--- where p is: in the row at its place, or in none
-abbrev pub Located : List Row → ℕ → Bits → Place → Type 0
-Located rows n p (Held i) = HeldAt rows n p i
-Located rows n p (Absent i) = AbsentAt rows n p i
+-- where p is in the map that the first n rows are
+abbrev pub InMap : List Row → ℕ → Bits → Place → Type 0
+InMap rows n p (Held i) = HeldAt rows n p i
+InMap rows n p (Absent i) = AbsentAt rows n p i
 
 -- the row at place i of the first n, if there are so many
 abbrev pub RowAt : List Row → ℕ → ℕ → Option Row → Type 0

@@ -1,5 +1,5 @@
 -- What the rows of a sorted list mean: the plane that the first of them hold, in order. The rows past those are free.
-use Rattle.std.specs.Prelude.{◌≡◌, ℕ, zero, suc, ◌≤◌, List, [], ◌∷◌, map, length, take, Some, None, Option}
+use Rattle.std.specs.Prelude.{ℕ, zero, suc, ◌≤◌, List, [], ◌∷◌, map, length, take, Some, None, Option}
 use Rattle.std.specs.List.{AllByRecursion as All}
 use Rattle.bits.specs.Bits.{Bits}
 use Rattle.bits.specs.Halves.{front, Aligned, Fit}
@@ -32,10 +32,9 @@ pub record RowOk (w : ℕ) (row : Row) : Type 0 where
   pub prefix_fits : Fit row.prefix
   pub hop_fits : Fit row.hop
 
--- n rows are in use: no more than may be, a route each, in rising order, and each a proper row
+-- n rows are in use: no more than may be, in rising order, and each a proper row
 pub record WellFormed (w n : ℕ) (rows : List Row) : Type 0 where
   pub few : n ≤ usable (length rows)
-  pub each : length (routes w n rows) ≡ n
   pub rising : Rising (routes w n rows)
   pub proper : All (RowOk w) (take n rows)
 

@@ -3,7 +3,7 @@ ghost use Rattle.bits.specs.Halves.{front};
 ghost use Rattle.sorted.specs.Places.{InOrder, Inserted, Removed};
 
 use crate::row::Row;
-use crate::search::{Place, locate};
+use crate::search::{Place, place_of};
 use crate::shift::{insert_at, remove_at};
 use bits::halves::Halves;
 
@@ -16,7 +16,7 @@ pub fn insert(rows: &mut [Row], used: usize, room: usize, row: Row) -> Option<us
     requires within { room ≤ length rows.old }
     ensures { Inserted used room row rows.old rows.new result }
 {
-    match locate(rows, used, row.prefix, row.len) {
+    match place_of(rows, used, row.prefix, row.len) {
         Place::Held(i) => {
             rows[i] = row;
             Some(used)
@@ -36,7 +36,7 @@ pub fn remove(rows: &mut [Row], used: usize, prefix: Halves, len: u8) -> Option<
     requires short { len ≤ 128 }
     ensures { Removed used (front len prefix) rows.old rows.new result }
 {
-    match locate(rows, used, prefix, len) {
+    match place_of(rows, used, prefix, len) {
         Place::Held(i) => Some(remove_at(rows, i, used)),
         Place::Absent(_) => None,
     }

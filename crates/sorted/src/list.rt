@@ -59,6 +59,7 @@ impl<'a, A: Address> Sorted<'a, A> {
     }
 
     // How many routes there are.
+    #[tactic(auto, using(crate::proofs::Planes::each_one))]
     pub fn route_count(&self) -> usize
         requires { WellFormed A.Address.width self.now.used self.now.rows.now }
         ensures { result ≡ length (routes A.Address.width self.now.used self.now.rows.now) }

@@ -2,7 +2,7 @@ ghost use Rattle.std.specs.Prelude.{◌≡◌, ℕ, ◌<◌, ◌≤◌, length};
 ghost use Rattle.bits.specs.Halves.{word, front};
 ghost use Rattle.model.specs.Maps.{held};
 ghost use Rattle.sorted.specs.Rows.{entries};
-ghost use Rattle.sorted.specs.Places.{at, InOrder, StandsAt, Located, RowAt, LastMatch};
+ghost use Rattle.sorted.specs.Places.{at, InOrder, StandsAt, Located, InMap, RowAt, LastMatch};
 
 use crate::row::Row;
 use bits::halves::Halves;
@@ -49,13 +49,22 @@ pub fn locate(rows: &[Row], used: usize, prefix: Halves, len: u8) -> Place
     }
 }
 
+// Where the prefix is in the map that the first `used` rows are.
+pub fn place_of(rows: &[Row], used: usize, prefix: Halves, len: u8) -> Place
+    requires rising { InOrder used rows.now }
+    requires short { len ≤ 128 }
+    ensures { InMap rows.now used (front len prefix) result }
+{
+    locate(rows, used, prefix, len)
+}
+
 // The row of the prefix, if one of the first `used` is.
 pub fn find(rows: &[Row], used: usize, prefix: Halves, len: u8) -> Option<Row>
     requires rising { InOrder used rows.now }
     requires short { len ≤ 128 }
     ensures { result ≡ held (entries used rows.now) (front len prefix) }
 {
-    match locate(rows, used, prefix, len) {
+    match place_of(rows, used, prefix, len) {
         Place::Held(i) => Some(rows[i]),
         Place::Absent(_) => None,
     }
