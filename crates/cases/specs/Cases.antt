@@ -1,5 +1,5 @@
 -- Worked cases, in one table: lists of calls on stacks with the replies and the trie nodes they come to, and prefixes as they are made.
-use Rattle.std.specs.Prelude.{◌≡◌, ℕ, ◌+◌, ◌*◌, ◌^◌, true, false, List, [], ◌∷◌, map, length, take, Some, None, Ok, Err, Result}
+use Rattle.std.specs.Prelude.{◌≡◌, ℕ, ◌+◌, ◌*◌, ◌^◌, true, false, List, [], ◌∷◌, map, take, Some, Ok, Err, Result}
 use Rattle.bits.specs.Bits.{Bits}
 use Rattle.bits.specs.Halves.{low_bits}
 use Rattle.model.specs.Views.{Rule}

@@ -1,14 +1,14 @@
 -- A destination cache, by the table below it. Assumes nothing.
-use Rattle.std.proofs.Common.{◌≡◌, ℕ, zero, suc, ◌<◌, ◌≤◌, Bool, true, false, cond, not, ◌&&◌, eqb, leb, ◌⊎◌, List, [], ◌∷◌, ◌++◌, map, length, get_or, set, replicate, Some, None, Option, sym, refl, ap, ◌∙◌, subst, inl, inr, arith}
+use Rattle.std.proofs.Common.{◌≡◌, ℕ, zero, suc, ◌<◌, ◌≤◌, Bool, true, false, cond, not, eqb, leb, ◌⊎◌, List, [], ◌∷◌, map, length, get_or, set, replicate, Some, None, sym, refl, ap, ◌∙◌, subst, inl, inr, arith}
 use Rattle.std.proofs.lemmas.List.{get_or-set_same, get_or-set_other, set_past, set-get_or, get_or-map, get_or_past, length-map, length-set, map-set, get_or-replicate, length-replicate}
 use Rattle.std.proofs.lemmas.Bool.{le-leb, eqb-true, cases_eq, cases_lt, cases_Bool, and_parts, true≢false}
 use Rattle.bits.specs.Bits.{Bits, covers, equal}
 use Rattle.bits.proofs.Orders.{equal_is, equal_self}
 use Rattle.model.specs.Maps.{Visible, held}
 use Rattle.model.specs.Longest.{answer}
-use Rattle.model.specs.Machine.{Plane, Target, Answer, View, Room, Act, announce, withdraw, fetch, Call, on, lookup, Reply, done, found, refused, plane, accepted, applied, next, reply_of}
-use Rattle.model.specs.Slots.{Slot, slot, slot_of, in_full, holds_address, hits, reaches, cleared, slots_applied, slot_rule}
-use Rattle.model.specs.Stack.{Stack, cache, planes_of, view_of, room_of, after, UpToDate, AllUpToDate, Current, Described}
+use Rattle.model.specs.Machine.{Plane, Target, Answer, View, Room, Act, announce, withdraw, fetch, Call, on, lookup, Reply, found, plane, accepted, applied, next, reply_of}
+use Rattle.model.specs.Slots.{Slot, slot, slot_of, in_full, holds_address, reaches, cleared}
+use Rattle.model.specs.Stack.{Stack, cache, planes_of, room_of, after, UpToDate, AllUpToDate, Current, Described}
 use Rattle.model.specs.Laws.{Agree, Local}
 use Rattle.model.specs.Logs.{granted}
 use Rattle.model.proofs.LogLaws.{Went, turned_down, went, how, accepted_plane}

@@ -1,5 +1,5 @@
 -- Prefixes that cover an address. Assumes nothing.
-use Rattle.std.proofs.Common.{◌≡◌, ℕ, zero, suc, Bool, true, false, List, [], ◌∷◌, take, refl}
+use Rattle.std.proofs.Common.{◌≡◌, ℕ, zero, suc, true, false, [], ◌∷◌, take, refl}
 use Rattle.bits.specs.Bits.{Bits, covers}
 
 -- the first bits of an address cover it

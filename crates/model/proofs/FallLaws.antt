@@ -1,16 +1,16 @@
 -- A fall-through, by its two tables. Assumes nothing.
-use Rattle.std.proofs.Common.{◌≡◌, ℕ, zero, suc, ◌+◌, ◌-◌, ◌<◌, ◌≤◌, min, Bool, true, false, cond, not, ltb, leb, ◌⊎◌, List, [], ◌∷◌, ◌++◌, length, get_or, take, drop, Some, None, Option, sym, refl, ap, ◌∙◌, inl, inr, append-nil, arith}
+use Rattle.std.proofs.Common.{◌≡◌, ℕ, zero, suc, ◌+◌, ◌-◌, ◌<◌, ◌≤◌, min, Bool, true, false, cond, ltb, leb, ◌⊎◌, List, [], ◌++◌, length, take, drop, Some, None, Option, sym, refl, ap, ◌∙◌, inl, inr, arith}
 use Rattle.std.proofs.lemmas.List.{length-take, length-take-le, length-drop, length-append, take-take, get_or-take, get_or-drop, get_or_past, get_or_append_left, get_or-append_right, take_at, drop_at}
-use Rattle.std.proofs.lemmas.Bool.{lt-ltb, le-ltb, ltb-true, ltb-false, cases_lt, cases_Bool, leb-true, le-leb}
+use Rattle.std.proofs.lemmas.Bool.{lt-ltb, le-ltb, cases_lt, le-leb}
 use Rattle.bits.specs.Bits.{Bits, covers}
-use Rattle.model.specs.Maps.{Map, Visible, held, put, removed, Rising}
+use Rattle.model.specs.Maps.{Visible, held, put, removed, Rising}
 use Rattle.model.specs.Longest.{or_else, at_length, answer}
 use Rattle.model.specs.Views.{unless, fallen_through}
 use Rattle.model.specs.Room.{Held, RoomLaw}
-use Rattle.model.specs.Machine.{Plane, Target, Answer, View, Room, Act, Call, on, lookup, Reply, done, found, refused, plane, refusal_of, accepted_reply, act_reply, unless_refused, reply_of, next}
-use Rattle.model.specs.Stack.{Stack, fall, fall_view, fall_room, planes_of, view_of, room_of, if_none, after, Current, Described}
+use Rattle.model.specs.Machine.{Plane, Target, View, Room, Act, on, lookup, Reply, found, plane}
+use Rattle.model.specs.Stack.{Stack, fall, fall_view, fall_room, Described}
 use Rattle.model.specs.Laws.{Agree, Local, Sound}
-use Rattle.model.proofs.StackLaws.{after_nil, refusal_upper, refusal_lower, next_upper, next_lower, length_next}
+use Rattle.model.proofs.StackLaws.{after_nil, refusal_upper, refusal_lower, next_upper, next_lower}
 use Rattle.model.proofs.Steps.{At, Step, DescribedAt, step_count}
 
 -- ---- the view

@@ -6,7 +6,7 @@ use Rattle.bits.specs.Bits.{Bits, covers}
 use Rattle.model.specs.Maps.{Visible}
 use Rattle.model.specs.Longest.{or_else, at_length, answer}
 use Rattle.model.specs.Views.{Rule, permits, filtered}
-use Rattle.model.specs.Machine.{Plane, Target, Answer, View, Room, Act, Call, on, lookup, Reply, found, refused, reply_of}
+use Rattle.model.specs.Machine.{Plane, Target, Answer, View, Room, Act, Call, on, lookup, Reply, found, refused}
 use Rattle.model.specs.Stack.{Stack, filter, filter_view, past, asked_again, after, Described}
 use Rattle.model.specs.Laws.{Local}
 use Rattle.bits.proofs.Strings.{covers_starts}

@@ -1,15 +1,15 @@
 -- What planes and slots hold after a list of calls. Assumes nothing.
-use Rattle.std.proofs.Common.{◌≡◌, ℕ, zero, suc, ◌<◌, ◌≤◌, Bool, true, false, cond, not, ◌&&◌, ◌||◌, eqb, ltb, leb, ◌⊎◌, ◌↔◌, List, [], ◌∷◌, ◌++◌, map, length, get_or, set, is_some, Some, None, Option, sym, refl, ap, ◌∙◌, subst, inl, inr, mod-lt, arith}
-use Rattle.std.proofs.lemmas.Bool.{cases_Bool, true≢false, false≢true, ltb-true, eqb-true, eqb-false, eq-eqb, and_parts, and_cases, not-true}
+use Rattle.std.proofs.Common.{◌≡◌, ℕ, zero, suc, ◌<◌, Bool, true, false, cond, not, ◌&&◌, ◌||◌, eqb, ltb, ◌⊎◌, ◌↔◌, List, [], ◌∷◌, map, length, set, is_some, Some, None, Option, sym, refl, ap, ◌∙◌, subst, inl, inr, arith}
+use Rattle.std.proofs.lemmas.Bool.{cases_Bool, true≢false, false≢true, ltb-true, eqb-true, eqb-false, and_parts, and_cases}
 use Rattle.std.proofs.lemmas.List.{get_or-set_same, get_or-set_other, length-set, length-map}
-use Rattle.bits.specs.Bits.{Bits, equal}
+use Rattle.bits.specs.Bits.{Bits}
 use Rattle.model.specs.Maps.{held, put, removed}
 use Rattle.model.specs.Longest.{answer}
-use Rattle.model.specs.Machine.{Hop, Plane, Answer, View, Room, Act, announce, withdraw, fetch, Call, on, lookup, Reply, done, holds, found, refused, plane, act_refusal, refusal_of, accepted, applied, next, act_reply, accepted_reply, unless_refused, reply_of, end}
-use Rattle.model.specs.Slots.{Slot, slot, slot_of, in_full, reaches, cleared, slots_applied, slot_rule, slots_after}
-use Rattle.model.specs.Since.{Never, Last, Since}
+use Rattle.model.specs.Machine.{Hop, Plane, Answer, View, Room, Act, announce, withdraw, fetch, Call, on, lookup, Reply, done, found, plane, act_refusal, refusal_of, accepted, applied, next, act_reply, accepted_reply, unless_refused, reply_of, end}
+use Rattle.model.specs.Slots.{Slot, slot, slot_of, in_full, reaches, cleared, slot_rule, slots_after}
+use Rattle.model.specs.Since.{Since}
 use Rattle.model.specs.Logs.{Event, event, log, granted, names, updates, updated, fell, covered, HoldsByLog, CachedByLog}
-use Rattle.bits.proofs.Orders.{equal_is, equal_self}
+use Rattle.bits.proofs.Orders.{equal_is}
 use Rattle.model.proofs.MapLaws.{put_holds, removed_holds}
 use Rattle.model.proofs.Since.{since_none, since_more, since_either, iff_trans}
 

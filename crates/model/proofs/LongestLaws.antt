@@ -1,8 +1,8 @@
 -- The answer of a lookup is the longest match. Assumes nothing.
-use Rattle.std.proofs.Common.{◌≡◌, ℕ, zero, suc, ◌<◌, ◌≤◌, Bool, true, false, ◌⊎◌, List, [], ◌∷◌, length, take, Some, None, Option, sym, refl, ap, ◌∙◌, subst, inl, inr, arith}
+use Rattle.std.proofs.Common.{◌≡◌, ℕ, zero, suc, ◌≤◌, ◌⊎◌, [], length, take, Some, None, Option, sym, refl, ap, ◌∙◌, inl, inr, arith}
 use Rattle.std.proofs.lemmas.List.{length-take-le}
 use Rattle.std.proofs.lemmas.Bool.{cases_eq}
-use Rattle.bits.specs.Bits.{Bits, covers}
+use Rattle.bits.specs.Bits.{Bits}
 use Rattle.model.specs.Maps.{Visible}
 use Rattle.model.specs.Longest.{or_else, at_length, answer, Candidate, LongestFound, Longest, LongestLaws}
 use Rattle.bits.proofs.Strings.{covers_starts}

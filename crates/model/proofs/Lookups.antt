@@ -1,9 +1,9 @@
 -- When a lookup is refused. Assumes nothing.
-use Rattle.std.proofs.Common.{◌≡◌, ℕ, ◌≤◌, Bool, true, false, cond, leb, length, Some, None, sym, refl, ap, ◌∙◌, arith}
+use Rattle.std.proofs.Common.{◌≡◌, ℕ, ◌≤◌, Bool, true, false, cond, leb, length, Some, None, refl, arith}
 use Rattle.std.proofs.lemmas.Bool.{leb-true}
 use Rattle.bits.specs.Bits.{Bits}
 use Rattle.model.specs.Longest.{answer}
-use Rattle.model.specs.Machine.{Answer, lookup, Reply, found, refused, unless_refused}
+use Rattle.model.specs.Machine.{Answer, lookup, found, refused, unless_refused}
 use Rattle.model.proofs.Steps.{At, Step}
 
 module _ (s t : At) (a : Bits) (b : ℕ) where

@@ -1,10 +1,10 @@
 -- Laws of prefix maps. Assumes nothing.
-use Rattle.std.proofs.Common.{◌≡◌, ℕ, Bool, true, false, cond, ◌⊎◌, List, [], ◌∷◌, Some, None, Option, sym, refl, ap, ◌∙◌, subst, inl, inr, arith}
-use Rattle.std.proofs.lemmas.Bool.{cases_Bool, true≢false}
+use Rattle.std.proofs.Common.{◌≡◌, ℕ, Bool, true, false, cond, [], ◌∷◌, Some, None, Option, sym, refl, ap, ◌∙◌, subst, inl, inr, arith}
+use Rattle.std.proofs.lemmas.Bool.{cases_Bool}
 use Rattle.std.proofs.ByRecursion.{All-weaker}
 use Rattle.bits.specs.Bits.{Bits, Order, before, same, after, order, by, equal}
 use Rattle.model.specs.Maps.{Route, Map, route, held, put, removed, Above, Rising, MapLaws}
-use Rattle.bits.proofs.Orders.{order_self, equal_self, same_is, equal_is, flip_before, flip_after, before_trans, not_equal, not_equal_after, before≢same, before≢after}
+use Rattle.bits.proofs.Orders.{equal_self, same_is, equal_is, flip_after, before_trans, not_equal, not_equal_after}
 
 module _ {V : Type 0} where
   -- what is above p's successor is above p

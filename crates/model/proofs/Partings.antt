@@ -1,7 +1,7 @@
 -- Where two prefixes part. Assumes nothing.
-use Rattle.std.proofs.Common.{◌≡◌, Bool, true, false, cond, ◌⊎◌, List, [], ◌∷◌, ◌++◌, sym, refl, ap, ◌∙◌, subst, inl, inr}
+use Rattle.std.proofs.Common.{◌≡◌, true, false, ◌⊎◌, [], ◌∷◌, sym, refl, ap, ◌∙◌, inl, inr}
 use Rattle.std.proofs.lemmas.Bool.{false≢true}
-use Rattle.bits.specs.Bits.{Bits, Order, before, same, after, order, covers, common}
+use Rattle.bits.specs.Bits.{Bits, before, order, common}
 use Rattle.model.specs.Room.{Beneath}
 use Rattle.bits.proofs.Orders.{before≢same, before≢after, flip_before, order_self}
 

@@ -1,17 +1,17 @@
 -- From one call to a whole list of calls. Assumes nothing.
-use Rattle.std.proofs.Common.{◌≡◌, ℕ, zero, suc, ◌<◌, Bool, true, false, cond, not, ltb, ◌↔◌, List, [], ◌∷◌, ◌++◌, length, is_some, Some, None, Option, sym, refl, ap, ◌∙◌, subst, arith}
+use Rattle.std.proofs.Common.{◌≡◌, ℕ, ◌<◌, Bool, true, false, cond, ◌↔◌, List, [], ◌∷◌, ◌++◌, length, is_some, Some, None, Option, sym, refl, ap, ◌∙◌, arith}
 use Rattle.std.specs.List.{AllByRecursion as All}
 use Rattle.std.proofs.lemmas.Bool.{true≢false, lt-ltb}
 use Rattle.bits.specs.Bits.{Bits}
 use Rattle.model.specs.Maps.{held, put}
 use Rattle.model.specs.Room.{Held}
-use Rattle.model.specs.Machine.{Hop, Plane, View, Room, Act, announce, withdraw, Call, on, lookup, Reply, done, refused, plane, refusal_of, accepted, next, unless_refused, reply_of, replies, end}
+use Rattle.model.specs.Machine.{Hop, Plane, View, Room, announce, withdraw, Call, on, Reply, done, plane, accepted, next, unless_refused, reply_of, replies, end}
 use Rattle.model.specs.Stack.{Stack, table, cache, filter, fall, planes_of, view_of, room_of, cache_sent, filter_sent, upper_sent, lower_sent, after, Current, Described}
 use Rattle.model.specs.Laws.{Sound, Does}
 use Rattle.model.specs.Logs.{Event, event, events, calls_of, log, granted, CachesByLog}
-use Rattle.model.specs.Promise.{InTurn, InParts, RunsAsReference}
-use Rattle.model.proofs.LogLaws.{Went, turned_down, went, how, holds_by_log, cached_by_log}
-use Rattle.model.proofs.StackLaws.{end_append, replies_append, length_end, Kept, kept, after_nil, after_append, next_refused, next_reads, after_refused}
+use Rattle.model.specs.Promise.{InTurn, RunsAsReference}
+use Rattle.model.proofs.LogLaws.{turned_down, went, how, holds_by_log, cached_by_log}
+use Rattle.model.proofs.StackLaws.{end_append, replies_append, length_end, kept, after_nil, after_append, next_refused, next_reads, after_refused}
 
 -- ---- every cache, by the log
 

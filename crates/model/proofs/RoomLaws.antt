@@ -1,15 +1,15 @@
 -- The branches of a map are listed, each once. Assumes nothing.
-use Rattle.std.proofs.Common.{◌≡◌, ℕ, zero, suc, ◌+◌, ◌≤◌, Bool, true, false, cond, not, leb, ◌⊎◌, ◌↔◌, List, [], ◌∷◌, ◌++◌, map, length, is_some, Some, None, filter, Option, sym, refl, ap, ◌∙◌, subst, inl, inr, arith}
+use Rattle.std.proofs.Common.{◌≡◌, ℕ, suc, ◌+◌, ◌≤◌, Bool, true, false, cond, not, ◌⊎◌, ◌↔◌, List, [], ◌∷◌, ◌++◌, length, is_some, Some, None, filter, Option, sym, refl, ap, ◌∙◌, subst, inl, inr, arith}
 use Rattle.std.specs.List.{AllByRecursion as All}
-use Rattle.std.proofs.lemmas.Bool.{cases_Bool, true≢false, false≢true, leb-true, le-leb}
-use Rattle.std.proofs.lemmas.List.{length-append, length-map}
+use Rattle.std.proofs.lemmas.Bool.{cases_Bool, false≢true, leb-true, le-leb}
+use Rattle.std.proofs.lemmas.List.{length-append}
 use Rattle.std.proofs.ByRecursion.{All-weaker, All-append}
-use Rattle.bits.specs.Bits.{Bits, Order, before, same, after, order, by, equal, common}
-use Rattle.model.specs.Maps.{Route, Map, route, held, put, removed, Above, Rising}
+use Rattle.bits.specs.Bits.{Bits, before, order, equal, common}
+use Rattle.model.specs.Maps.{Route, Map, held, put, removed, Above, Rising}
 use Rattle.model.specs.Room.{Held, Beneath, Branch, partings, branches, nodes, fits_rows, fits_nodes, In, Distinct, Fits, RoomLaw, RoomLaws}
-use Rattle.bits.proofs.Orders.{equal_self, equal_is, flip_before, before≢same, before≢after, order_self}
-use Rattle.model.proofs.MapLaws.{held_head, above_none, none≢some, put_rises, removed_rises, put_holds, removed_holds}
-use Rattle.model.proofs.Members.{in_left, in_right, in_append, distinct_append, in_all, all_in, pigeonhole, in_kept, kept_in}
+use Rattle.bits.proofs.Orders.{equal_is, before≢same, order_self}
+use Rattle.model.proofs.MapLaws.{held_head, none≢some, put_rises, removed_rises, put_holds, removed_holds}
+use Rattle.model.proofs.Members.{in_left, in_right, distinct_append, all_in, pigeonhole, in_kept, kept_in}
 use Rattle.model.proofs.Partings.{parts, parts_at, sides_order, between, not_both, one_side}
 
 module _ {V : Type 0} where

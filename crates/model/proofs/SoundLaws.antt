@@ -1,18 +1,17 @@
 -- Planes stay sound, and a table of one plane is local. Assumes nothing.
-use Rattle.std.proofs.Common.{◌≡◌, ℕ, zero, suc, ◌<◌, ◌≤◌, Bool, true, false, cond, not, ltb, ◌⊎◌, List, [], ◌∷◌, length, take, set, is_some, Some, None, sym, refl, ap, ◌∙◌, subst, inl, inr, arith}
+use Rattle.std.proofs.Common.{◌≡◌, ℕ, zero, suc, ◌<◌, Bool, true, false, cond, not, ltb, ◌⊎◌, List, [], length, take, set, is_some, Some, None, refl, ap, inl, inr}
 use Rattle.std.proofs.lemmas.Bool.{false≢true, cases_eq}
 use Rattle.std.proofs.lemmas.List.{get_or-set_same, get_or-set_other, length-set}
 use Rattle.bits.specs.Bits.{Bits}
-use Rattle.model.specs.Maps.{Map, Visible, held, put, Rising}
+use Rattle.model.specs.Maps.{Visible, held, put, Rising}
 use Rattle.model.specs.Longest.{at_length, answer}
 use Rattle.model.specs.Room.{RoomLaw}
 use Rattle.model.specs.Machine.{Plane, Room, Act, announce, withdraw, fetch, Call, on, lookup, plane, act_refusal, accepted, applied, next}
-use Rattle.model.specs.Laws.{Agree, Local, Sound}
+use Rattle.model.specs.Laws.{Local, Sound}
 use Rattle.model.specs.Tables.{plain}
 use Rattle.model.proofs.Coverings.{take_covers}
 use Rattle.model.proofs.MapLaws.{put_rises, removed_rises}
 use Rattle.model.proofs.LogLaws.{accepted_plane}
-use Rattle.model.proofs.StackLaws.{length_next}
 
 applied_rises : (m : Plane) (act : Act) → Rising m → Rising (applied m act)
 applied_rises m (announce p h) g = put_rises m p h g

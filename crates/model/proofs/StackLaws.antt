@@ -1,15 +1,15 @@
 -- What lists of calls leave of a stack of layers. Assumes nothing.
-use Rattle.std.proofs.Common.{◌≡◌, ℕ, zero, suc, ◌+◌, ◌-◌, ◌<◌, ◌≤◌, Bool, true, false, cond, not, ◌&&◌, eqb, ltb, leb, ◌⊎◌, List, [], ◌∷◌, ◌++◌, length, get_or, take, drop, set, is_some, Some, None, Option, sym, refl, ap, ◌∙◌, inl, inr, append_assoc, append-nil, arith}
+use Rattle.std.proofs.Common.{◌≡◌, ℕ, zero, suc, ◌-◌, ◌<◌, ◌≤◌, Bool, true, false, cond, not, ◌&&◌, eqb, ltb, leb, ◌⊎◌, List, [], ◌∷◌, ◌++◌, length, take, set, is_some, Some, None, Option, sym, refl, ap, ◌∙◌, inl, inr, append_assoc, arith}
 use mathlib.Core.Path.{fun_ext}
 use Rattle.std.proofs.lemmas.List.{length-set, length-append, get_or_append_left, get_or-append_right, set-append_left, set-append_right}
-use Rattle.std.proofs.lemmas.Bool.{ltb-true, ltb-false, lt-ltb, le-ltb, leb-false, eqb-true, cases_lt, cases_Bool, cond-true, cond-false, true≢false, false≢true, ne_eqb}
+use Rattle.std.proofs.lemmas.Bool.{ltb-true, ltb-false, lt-ltb, le-ltb, leb-false, cases_lt, cond-true, cond-false, true≢false, false≢true, ne_eqb}
 use Rattle.bits.specs.Bits.{Bits}
 use Rattle.model.specs.Maps.{Visible}
 use Rattle.model.specs.Views.{Rule, permits}
 use Rattle.model.specs.Longest.{answer}
-use Rattle.model.specs.Machine.{Plane, Target, Answer, View, Room, Act, announce, withdraw, fetch, Call, on, lookup, Reply, plane, reads, act_refusal, refusal_of, accepted, applied, next, reply_of, replies, end}
-use Rattle.model.specs.Slots.{Slot, slot, slot_of, in_full, holds_address, hits, slot_rule, slots_after}
-use Rattle.model.specs.Stack.{Stack, table, cache, filter, fall, planes_of, view_of, room_of, filter_view, fall_view, fall_room, cache_sends, cache_sent, past, asked_again, filter_sends, filter_sent, upper_gets, lower_gets, upper_sent, lower_sent, if_none, after, Described}
+use Rattle.model.specs.Machine.{Plane, Target, Answer, View, Room, Act, announce, withdraw, fetch, Call, on, lookup, plane, reads, act_refusal, refusal_of, accepted, applied, next, reply_of, replies, end}
+use Rattle.model.specs.Slots.{Slot, slot, slot_of, holds_address, hits, slot_rule, slots_after}
+use Rattle.model.specs.Stack.{Stack, table, cache, filter, fall, planes_of, view_of, room_of, filter_view, fall_room, cache_sends, cache_sent, past, asked_again, filter_sends, filter_sent, upper_gets, lower_gets, upper_sent, lower_sent, if_none, after}
 
 -- ---- the machine over lists
 

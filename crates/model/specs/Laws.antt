@@ -1,5 +1,5 @@
 -- The laws that every table keeps.
-use Rattle.std.specs.Prelude.{◌≡◌, ℕ, ◌<◌, ◌≤◌, Bool, true, List, [], ◌∷◌, length}
+use Rattle.std.specs.Prelude.{◌≡◌, ℕ, ◌<◌, ◌≤◌, true, List, [], ◌∷◌, length}
 use Rattle.bits.specs.Bits.{Bits, covers}
 use Rattle.model.specs.Maps.{held, Rising}
 use Rattle.model.specs.Longest.{answer}

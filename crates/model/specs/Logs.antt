@@ -1,8 +1,8 @@
 -- What stands after a whole list of calls, by the log of calls and replies alone.
-use Rattle.std.specs.Prelude.{◌≡◌, ℕ, ◌<◌, Bool, true, false, ◌&&◌, ◌⊎◌, ◌↔◌, List, [], ◌∷◌, map, length, Some, None, Option, ◌==◌}
+use Rattle.std.specs.Prelude.{◌≡◌, ℕ, ◌<◌, Bool, true, false, ◌&&◌, ◌⊎◌, ◌↔◌, List, [], ◌∷◌, map, length, Some, ◌==◌}
 use Rattle.bits.specs.Bits.{Bits, equal}
 use Rattle.model.specs.Maps.{held}
-use Rattle.model.specs.Machine.{Hop, Plane, Answer, View, Room, Act, announce, withdraw, fetch, Call, on, lookup, Reply, done, holds, found, refused, plane, replies}
+use Rattle.model.specs.Machine.{Hop, Plane, Answer, View, Room, Act, announce, withdraw, fetch, Call, on, lookup, Reply, done, holds, found, refused, replies}
 use Rattle.model.specs.Slots.{Slot, slot, slot_of, in_full, reaches}
 use Rattle.model.specs.Since.{Since, Never, LastUnless}
 use Rattle.model.specs.Stack.{Stack, table, cache, filter, fall, planes_of, view_of, room_of, cache_sent, filter_sent, upper_sent, lower_sent}

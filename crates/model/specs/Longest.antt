@@ -1,5 +1,5 @@
 -- The longest match: of the visible prefixes that cover an address and are no longer than the bound, the longest.
-use Rattle.std.specs.Prelude.{◌≡◌, ℕ, zero, suc, ◌≤◌, Bool, true, false, List, [], ◌∷◌, length, take, Some, None, Option}
+use Rattle.std.specs.Prelude.{◌≡◌, ℕ, zero, suc, ◌≤◌, true, [], length, take, Some, None, Option}
 use Rattle.bits.specs.Bits.{Bits, covers}
 use Rattle.model.specs.Maps.{Visible}
 

@@ -1,6 +1,6 @@
 -- A prefix map: routes in strictly rising order, so that two maps that hold the same are the same list.
 -- The definitions are over any value: none looks into what a map holds for a prefix.
-use Rattle.std.specs.Prelude.{◌≡◌, Bool, true, false, cond, List, [], ◌∷◌, Some, None, Option}
+use Rattle.std.specs.Prelude.{◌≡◌, cond, List, [], ◌∷◌, Some, None, Option}
 use Rattle.std.specs.List.{AllByRecursion as All}
 use Rattle.bits.specs.Bits.{Bits, order, before, by, equal}
 

@@ -1,5 +1,5 @@
 -- The promise of a whole list of calls, over any table that keeps the interface.
-use Rattle.std.specs.Prelude.{◌≡◌, ℕ, ◌<◌, Bool, true, false, ◌↔◌, List, [], ◌∷◌, ◌++◌, length}
+use Rattle.std.specs.Prelude.{◌≡◌, ℕ, ◌<◌, true, false, ◌↔◌, List, [], ◌∷◌, ◌++◌, length}
 use Rattle.std.specs.List.{AllByRecursion as All}
 use Rattle.bits.specs.Bits.{Bits}
 use Rattle.model.specs.Maps.{held, put}

@@ -1,5 +1,5 @@
 -- Room: which prefix maps fit a plane. The rules of the two tables, and the law that every room rule keeps.
-use Rattle.std.specs.Prelude.{◌≡◌, ℕ, ◌+◌, ◌≤◌, Bool, true, false, not, ◌⊎◌, ◌↔◌, List, [], ◌∷◌, ◌++◌, length, is_some, Some, None, filter, Option, nat_le}
+use Rattle.std.specs.Prelude.{◌≡◌, ℕ, ◌+◌, ◌≤◌, Bool, true, not, ◌⊎◌, ◌↔◌, List, [], ◌∷◌, ◌++◌, length, is_some, None, filter, nat_le}
 use Rattle.std.specs.List.{AllByRecursion as All}
 use Rattle.bits.specs.Bits.{Bits, covers, common}
 use Rattle.model.specs.Maps.{Map, Visible, held, put, removed, Rising}

@@ -1,8 +1,8 @@
 -- What the two tables mean: one plane, visible as it is, and a room rule by the storage they have borrowed.
-use Rattle.std.specs.Prelude.{ℕ, min, List, ◌∷◌}
+use Rattle.std.specs.Prelude.{ℕ, min}
 use Rattle.model.specs.Maps.{held}
 use Rattle.model.specs.Room.{fits_rows, fits_nodes}
-use Rattle.model.specs.Machine.{Plane, View, Room, plane}
+use Rattle.model.specs.Machine.{View, Room, plane}
 
 -- the view of a table with one plane
 abbrev pub plain : View

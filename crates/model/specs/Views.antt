@@ -1,5 +1,5 @@
 -- What the layers make of the visible maps below them.
-use Rattle.std.specs.Prelude.{ℕ, Bool, true, false, cond, ◌&&◌, List, [], ◌∷◌, length, Some, None, Option, nat_le}
+use Rattle.std.specs.Prelude.{ℕ, Bool, false, cond, ◌&&◌, List, [], ◌∷◌, length, Some, None, Option, nat_le}
 use Rattle.bits.specs.Bits.{Bits, covers}
 use Rattle.model.specs.Maps.{Visible}
 use Rattle.model.specs.Longest.{or_else, answer}

@@ -1,5 +1,5 @@
-use Rattle.std.proofs.Common.{◌≡◌, ℕ, ◌+◌, ◌<◌, ◌≤◌, List, [], ◌∷◌, ◌++◌, map, length, get_or, take, Some, sym, refl, ap, ◌∙◌, arith}
-use Rattle.std.proofs.lemmas.List.{map_push, take_all, length-map, length-set, get_or_default}
+use Rattle.std.proofs.Common.{◌≡◌, ℕ, ◌+◌, ◌<◌, ◌≤◌, List, [], ◌∷◌, ◌++◌, map, length, get_or, take, Some, refl, ap, ◌∙◌, arith}
+use Rattle.std.proofs.lemmas.List.{map_push, take_all, length-map, get_or_default}
 use Rattle.model.specs.Machine.{Plane, View, Room, Call as Asked, Reply as Told}
 use Rattle.model.specs.Stack.{Stack, Current, Described}
 use Rattle.model.specs.Laws.{Sound}
