@@ -4,7 +4,7 @@ use Rattle.std.proofs.lemmas.List.{length-append}
 use Rattle.model.specs.Laws.{Does}
 use Rattle.model.specs.Machine.{Plane, View, Room, Act, Reply, on}
 use Rattle.model.specs.Stack.{Stack}
-use Rattle.model.proofs.Steps.{At, at, Step, DescribedAt, step_of, step_count}
+use Rattle.model.proofs.Steps.{at, Step, DescribedAt, step_of, step_count}
 use Rattle.model.proofs.FallLaws.{joined, fall_upper, fall_lower}
 use Rattle.fall_through.specs.declared.place.Place.{Place}
 use Rattle.fall_through.specs.declared.place.Place.TheVariants.{Upper, Lower}

@@ -17,7 +17,7 @@ ghost use Rattle.model.specs.Stack.{table as leaf};
 ghost use Rattle.model.specs.Tables.{plain};
 ghost use Rattle.model.proofs.OnePlane.{one_described};
 ghost use Rattle.model.proofs.OneRoute.{few, few_sound};
-ghost use Rattle.model.proofs.RoomLaws.{rows_room as rows-law};
+ghost use Rattle.model.proofs.RoomLaws.{rows_room as rows_law};
 ghost use Rattle.model.proofs.SoundLaws.{plain_local};
 ghost use Rattle.table.specs.Meaning.{as_hop, as_answer};
 ghost use Rattle.minimal.specs.Held.{plane_of, one_room};
@@ -138,7 +138,7 @@ impl<A: Address> Table for OneRoute<A> {
 
     ghost local = { λ s. plain_local };
 
-    ghost roomy = { λ s i. rows-law 1 };
+    ghost roomy = { λ s i. rows_law 1 };
 
     ghost sound = { λ s v. few_sound (plane_of A.Address.bits A.Address.pbits s.route) (few (plane_of A.Address.bits A.Address.pbits) refl (λ r. refl) s.route) };
 

@@ -1,25 +1,25 @@
 -- A prefix map with another value for each route, and what holds of every route. Assumes nothing.
 use Rattle.std.proofs.Common.{◌≡◌, Bool, true, false, cond, [], ◌∷◌, map, Some, None, Option, refl, ap, subst}
-use Rattle.std.specs.List.{AllByRecursion as All}
+use Rattle.std.specs.List.{AllByRecursion}
 use Rattle.bits.specs.Bits.{Bits, Order, before, same, after, order, by, equal}
 use Rattle.model.specs.Maps.{Route, Map, route, held, put, removed, Above, Rising}
 use Rattle.model.proofs.MapLaws.{none≢some}
 
 module _ {V : Type 0} where
-  pub put_all : (Q : Route V → Type 0) (m : Map V) (p : Bits) (v : V) → Q (route p v) → All Q m → All Q (put m p v)
+  pub put_all : (Q : Route V → Type 0) (m : Map V) (p : Bits) (v : V) → Q (route p v) → AllByRecursion Q m → AllByRecursion Q (put m p v)
   put_all Q [] p v q a = (q, tt)
   put_all Q (r ∷ m) p v q a = go (put_all Q m p v q a.1) (order p r.prefix)
     where
-      go : All Q (put m p v) → (o : Order) → All Q (by o (route p v ∷ (r ∷ m)) (route p v ∷ m) (r ∷ put m p v))
+      go : AllByRecursion Q (put m p v) → (o : Order) → AllByRecursion Q (by o (route p v ∷ (r ∷ m)) (route p v ∷ m) (r ∷ put m p v))
       go ih before = (q, a)
       go ih same = (q, a.1)
       go ih after = (a.0, ih)
 
-  pub removed_all : (Q : Route V → Type 0) (m : Map V) (p : Bits) → All Q m → All Q (removed m p)
+  pub removed_all : (Q : Route V → Type 0) (m : Map V) (p : Bits) → AllByRecursion Q m → AllByRecursion Q (removed m p)
   removed_all Q [] p a = tt
   removed_all Q (r ∷ m) p a = go (removed_all Q m p a.1) (equal p r.prefix)
     where
-      go : All Q (removed m p) → (b : Bool) → All Q (cond b (removed m p) (r ∷ removed m p))
+      go : AllByRecursion Q (removed m p) → (b : Bool) → AllByRecursion Q (cond b (removed m p) (r ∷ removed m p))
       go ih true = ih
       go ih false = (a.0, ih)
 
@@ -27,7 +27,7 @@ module _ {V : Type 0} where
   some_value P x y e h = let f : x ≡ y = cc in subst P f h
 
   -- what holds of every value holds of one that is held
-  pub held_all : (P : V → Type 0) (m : Map V) (p : Bits) (v : V) → All (λ r. P r.value) m → held m p ≡ Some v → P v
+  pub held_all : (P : V → Type 0) (m : Map V) (p : Bits) (v : V) → AllByRecursion (λ r. P r.value) m → held m p ≡ Some v → P v
   held_all P [] p v a e = absurd (none≢some v e)
   held_all P (r ∷ m) p v a e = go (held_all P m p v a.1) (equal p r.prefix) e
     where

@@ -1,6 +1,6 @@
 -- Membership, distinct lists and the pigeonhole. Assumes nothing.
 use Rattle.std.proofs.Common.{◌≡◌, suc, ◌≤◌, Bool, true, false, cond, ◌⊎◌, List, [], ◌∷◌, ◌++◌, length, filter, sym, refl, ap, ◌∙◌, subst, inl, inr, arith}
-use Rattle.std.specs.List.{AllByRecursion as All}
+use Rattle.std.specs.List.{AllByRecursion}
 use Rattle.model.specs.Room.{In, Distinct}
 
 module _ {X : Type 0} where
@@ -45,20 +45,20 @@ module _ {X : Type 0} where
   without_in x (y ∷ ys) (inr i) z n (inl f) = inl f
   without_in x (y ∷ ys) (inr i) z n (inr j) = inr (without_in x ys i z n j)
 
-  pub all_in : (P : X → Type 0) (xs : List X) → ((x : X) → In x xs → P x) → All P xs
+  pub all_in : (P : X → Type 0) (xs : List X) → ((x : X) → In x xs → P x) → AllByRecursion P xs
   all_in P [] f = tt
   all_in P (x ∷ xs) f = (f x (inl refl), all_in P xs (λ y i. f y (inr i)))
 
-  pub in_all : (P : X → Type 0) (xs : List X) → All P xs → (x : X) → In x xs → P x
+  pub in_all : (P : X → Type 0) (xs : List X) → AllByRecursion P xs → (x : X) → In x xs → P x
   in_all P [] h x i = elim i [ ]
   in_all P (y ∷ xs) h x (inl e) = subst P (sym e) h.0
   in_all P (y ∷ xs) h x (inr i) = in_all P xs h.1 x i
 
   -- distinct elements of a list are no more than it has
-  pub pigeonhole : (xs ys : List X) → Distinct xs → All (λ x. In x ys) xs → length xs ≤ length ys
+  pub pigeonhole : (xs ys : List X) → Distinct xs → AllByRecursion (λ x. In x ys) xs → length xs ≤ length ys
   pigeonhole [] ys d h = omega arith
   pigeonhole (x ∷ xs) ys d h =
-      let rest : All (λ z. In z (without x ys h.0)) xs =
+      let rest : AllByRecursion (λ z. In z (without x ys h.0)) xs =
       all_in (λ z. In z (without x ys h.0)) xs (λ z i. without_in x ys h.0 z (λ e. d.0 (subst (λ w. In w xs) e i)) (in_all (λ z. In z ys) xs h.1 z i)) in
       let ih = pigeonhole xs (without x ys h.0) d.1 rest in
       omega (arith, without_length x ys h.0)

@@ -1,6 +1,6 @@
 -- Places in a prefix map: what a route put in, taken out or sought at its place gives, by index. Assumes nothing.
 use Rattle.std.proofs.Common.{◌≡◌, ℕ, zero, suc, ◌<◌, ◌≤◌, Bool, true, false, cond, ◌⊎◌, [], ◌∷◌, length, get_or, take, drop, set, Some, None, Option, sym, refl, ap, ◌∙◌, subst, inl, inr, arith}
-use Rattle.std.specs.List.{insert, AllByRecursion as All, remove as without}
+use Rattle.std.specs.List.{insert, AllByRecursion, remove as without}
 use Rattle.std.proofs.lemmas.Bool.{cases_lt, cases_eq, false≢true}
 use Rattle.std.proofs.ByRecursion.{All-weaker, All-get_or}
 use Rattle.bits.specs.Bits.{Bits, Order, before, same, after, order, by, equal, covers}
@@ -47,7 +47,7 @@ covering_not_after (true ∷ q) (true ∷ a) (suc b) e l o = covering_not_after 
 module _ {V : Type 0} where
   -- every prefix of the map stands before p
   abbrev pub Below : Bits → Map V → Type 0
-  Below p m = All (λ r. order r.prefix p ≡ before) m
+  Below p m = AllByRecursion (λ r. order r.prefix p ≡ before) m
 
   pub rising_at : (m : Map V) (d : Route V) → Rising m → (j k : ℕ) → j < k → k < length m → order (get_or m j d).prefix (get_or m k d).prefix ≡ before
   rising_at [] d h j k l n = absurd (omega arith)

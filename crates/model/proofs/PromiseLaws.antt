@@ -1,6 +1,6 @@
 -- From one call to a whole list of calls. Assumes nothing.
 use Rattle.std.proofs.Common.{◌≡◌, ℕ, ◌<◌, Bool, true, false, cond, ◌↔◌, List, [], ◌∷◌, ◌++◌, length, is_some, Some, None, Option, sym, refl, ap, ◌∙◌, arith}
-use Rattle.std.specs.List.{AllByRecursion as All}
+use Rattle.std.specs.List.{AllByRecursion}
 use Rattle.std.proofs.lemmas.Bool.{true≢false, lt-ltb}
 use Rattle.bits.specs.Bits.{Bits}
 use Rattle.model.specs.Maps.{held, put}
@@ -98,9 +98,9 @@ pub record So {X : Type 0} (planes : X → List Plane) (view : X → View) (room
   pub same_view : view t ≡ view s
   pub same_room : room t ≡ room s
   pub entries : stack t ≡ after (stack s) cs
-  pub unchanged : All (λ y. granted y ≡ false) ys → t ≡ s
+  pub unchanged : AllByRecursion (λ y. granted y ≡ false) ys → t ≡ s
 
-all_front : {X : Type 0} (P : X → Type 0) (xs : List X) (z : X) → All P (xs ++ (z ∷ [])) → All P xs × P z
+all_front : {X : Type 0} (P : X → Type 0) (xs : List X) (z : X) → AllByRecursion P (xs ++ (z ∷ [])) → AllByRecursion P xs × P z
 all_front P [] z h = (tt, h.0)
 all_front P (x ∷ xs) z h = let w = all_front P xs z h.1 in ((h.0, w.0), w.1)
 

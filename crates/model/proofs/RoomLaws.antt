@@ -1,6 +1,6 @@
 -- The branches of a map are listed, each once. Assumes nothing.
 use Rattle.std.proofs.Common.{◌≡◌, ℕ, suc, ◌+◌, ◌≤◌, Bool, true, false, cond, not, ◌⊎◌, ◌↔◌, List, [], ◌∷◌, ◌++◌, length, is_some, Some, None, filter, Option, sym, refl, ap, ◌∙◌, subst, inl, inr, arith}
-use Rattle.std.specs.List.{AllByRecursion as All}
+use Rattle.std.specs.List.{AllByRecursion}
 use Rattle.std.proofs.lemmas.Bool.{cases_Bool, false≢true, leb-true, le-leb}
 use Rattle.std.proofs.lemmas.List.{length-append}
 use Rattle.std.proofs.ByRecursion.{All-weaker, All-append}
@@ -168,14 +168,14 @@ module _ {V : Type 0} where
   node_list_length : (m : Map V) → length (node_list m) ≡ nodes m
   node_list_length m = length-append (prefixes m) (branches m) ∙ ap (λ n. n + length (branches m)) (prefixes_length m)
 
-  node_list_are : (m : Map V) → Rising m → All (λ p. Held (held m) p ⊎ Branch (held m) p) (node_list m)
+  node_list_are : (m : Map V) → Rising m → AllByRecursion (λ p. Held (held m) p ⊎ Branch (held m) p) (node_list m)
   node_list_are m g = All-append (λ p. Held (held m) p ⊎ Branch (held m) p) (prefixes m) (branches m)
       (all_in (λ p. Held (held m) p ⊎ Branch (held m) p) (prefixes m) (λ p i. inl (held_in m p i)))
       (all_in (λ p. Held (held m) p ⊎ Branch (held m) p) (branches m) (λ p i. inr ((branches_exact m g p).0 i)))
 
   pub at_most : (m : Map V) → Rising m → Fits (nodes m) (held m)
   at_most m g ps d h =
-      let k : All (λ p. In p (node_list m)) ps = All-weaker (λ p. Held (held m) p ⊎ Branch (held m) p) (λ p. In p (node_list m)) (λ p w. elim w [
+      let k : AllByRecursion (λ p. In p (node_list m)) ps = All-weaker (λ p. Held (held m) p ⊎ Branch (held m) p) (λ p. In p (node_list m)) (λ p w. elim w [
         | inl r ↦ in_left p (prefixes m) (branches m) (in_held m p r)
         | inr b ↦ in_right p (prefixes m) (branches m) ((branches_exact m g p).1 b)
       ]) ps h in

@@ -1,7 +1,7 @@
 -- A prefix map: routes in strictly rising order, so that two maps that hold the same are the same list.
 -- The definitions are over any value: none looks into what a map holds for a prefix.
 use Rattle.std.specs.Prelude.{◌≡◌, cond, List, [], ◌∷◌, Some, None, Option}
-use Rattle.std.specs.List.{AllByRecursion as All}
+use Rattle.std.specs.List.{AllByRecursion}
 use Rattle.bits.specs.Bits.{Bits, order, before, by, equal}
 
 -- a prefix with what goes with it
@@ -36,7 +36,7 @@ removed (r ∷ m) p = cond (equal p r.prefix) (removed m p) (r ∷ removed m p)
 
 -- p stands before every prefix of the map
 abbrev pub Above : {V : Type 0} → Bits → Map V → Type 0
-Above p m = All (λ r. order p r.prefix ≡ before) m
+Above p m = AllByRecursion (λ r. order p r.prefix ≡ before) m
 
 -- each prefix stands before all later ones: by address, then by length, none twice
 abbrev pub Rising : {V : Type 0} → Map V → Type 0

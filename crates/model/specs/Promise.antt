@@ -1,6 +1,6 @@
 -- The promise of a whole list of calls, over any table that keeps the interface.
 use Rattle.std.specs.Prelude.{◌≡◌, ℕ, ◌<◌, true, false, ◌↔◌, List, [], ◌∷◌, ◌++◌, length}
-use Rattle.std.specs.List.{AllByRecursion as All}
+use Rattle.std.specs.List.{AllByRecursion}
 use Rattle.bits.specs.Bits.{Bits}
 use Rattle.model.specs.Maps.{held, put}
 use Rattle.model.specs.Room.{Held}
@@ -38,7 +38,7 @@ pub record RunsAsReference {X : Type 0} (planes : X → List Plane) (view : X �
   -- every answer in a cache is what the layer below it would give now
   pub current : Current (stack t)
   -- a list of refused calls leaves the very same table, storage and all
-  pub unchanged : All (λ y. granted y ≡ false) ys → t ≡ s
+  pub unchanged : AllByRecursion (λ y. granted y ≡ false) ys → t ≡ s
   -- each call in its turn
   pub turns : (xs zs : List Event) (c : Call) (y : Reply) → events cs ys ≡ xs ++ (event c y ∷ zs) → InTurn (room s) (planes s) (stack s) xs c y
   -- what each plane holds, by the log alone

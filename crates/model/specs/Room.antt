@@ -1,6 +1,6 @@
 -- Room: which prefix maps fit a plane. The rules of the two tables, and the law that every room rule keeps.
 use Rattle.std.specs.Prelude.{◌≡◌, ℕ, ◌+◌, ◌≤◌, Bool, true, not, ◌⊎◌, ◌↔◌, List, [], ◌∷◌, ◌++◌, length, is_some, None, filter, nat_le}
-use Rattle.std.specs.List.{AllByRecursion as All}
+use Rattle.std.specs.List.{AllByRecursion}
 use Rattle.bits.specs.Bits.{Bits, covers, common}
 use Rattle.model.specs.Maps.{Map, Visible, held, put, removed, Rising}
 
@@ -55,7 +55,7 @@ Distinct (x ∷ xs) = (In x xs → ⊥) × Distinct xs
 
 -- any distinct prefixes, each a route or a branch, are at most n
 abbrev pub Fits : {V : Type 0} → ℕ → Visible V → Type 0
-Fits n s = (ps : List Bits) → Distinct ps → All (λ p. Held s p ⊎ Branch s p) ps → length ps ≤ n
+Fits n s = (ps : List Bits) → Distinct ps → AllByRecursion (λ p. Held s p ⊎ Branch s p) ps → length ps ≤ n
 
 -- the list of branches is exact, the count is that of routes and branches, and both rules keep the room law
 pub record RoomLaws (V : Type 0) : Type 0 where

@@ -1,15 +1,15 @@
 ghost use Rattle.std.specs.Prelude.{◌≡◌, ◌≤◌, [], ◌∷◌, length, ◌==◌};
 ghost use Rattle.bits.specs.Halves.{Aligned};
 ghost use Rattle.model.specs.Maps.{held};
-ghost use Rattle.model.specs.Room.{nodes as nodes-of};
+ghost use Rattle.model.specs.Room.{nodes as nodes_of};
 ghost use Rattle.model.specs.Longest.{answer};
 ghost use Rattle.table.specs.Meaning.{as_hop, as_answer};
 ghost use Rattle.model.specs.Tables.{plain, usable, nodes_room};
 ghost use Rattle.model.specs.Stack.{table as leaf};
 ghost use Rattle.model.proofs.SoundLaws.{plain_local};
-ghost use Rattle.model.proofs.RoomLaws.{nodes_room as nodes-law};
+ghost use Rattle.model.proofs.RoomLaws.{nodes_room as nodes_law};
 ghost use Rattle.model.proofs.OnePlane.{one_described};
-ghost use Rattle.trie.specs.Nodes.{key as prefix-of, routes};
+ghost use Rattle.trie.specs.Nodes.{key as prefix_of, routes};
 ghost use Rattle.trie.specs.Trie.{Leaf};
 ghost use Rattle.trie.specs.Well.{WellFormed};
 ghost use Rattle.trie.proofs.Planes.{plane_sound};
@@ -67,7 +67,7 @@ impl<'a, A: Address> Patricia<'a, A> {
     // How many nodes are in use: as many as there are routes and branches.
     pub fn node_count(&self) -> usize
         requires { WellFormed A.Address.width self.now.used self.now.nodes.now }
-        ensures { result ≡ nodes-of (routes A.Address.width self.now.used self.now.nodes.now) }
+        ensures { result ≡ nodes_of (routes A.Address.width self.now.used self.now.nodes.now) }
     {
         self.used // each node in use is of a route or a branch
     }
@@ -105,7 +105,7 @@ impl<'a, A: Address> Patricia<'a, A> {
 
 // A node for the prefix, with nothing beneath it.
 fn key_of<A: Address>(prefix: A::Prefix, hop: Option<Halves>) -> Node
-    ensures prefix { prefix-of result ≡ A.Address.pbits prefix }
+    ensures prefix { prefix_of result ≡ A.Address.pbits prefix }
     ensures short { result.len ≤ 128 }
     ensures hop { result.hop ≡ hop }
     ensures leaf { Leaf result }
@@ -152,7 +152,7 @@ impl<'a, A: Address> Table for Patricia<'a, A> {
 
     ghost local = { λ s. plain_local };
 
-    ghost roomy = { λ s i. nodes-law (usable (length s.nodes.now)) };
+    ghost roomy = { λ s i. nodes_law (usable (length s.nodes.now)) };
 
     ghost sound = { λ s v. plane_sound A.Address.width s.used s.nodes.now v };
 

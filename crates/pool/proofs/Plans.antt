@@ -1,5 +1,5 @@
 -- Plans for which there is no room.
-use Rattle.std.proofs.Common.{◌≡◌, ℕ, ◌+◌, ◌<◌, ◌≤◌, true, false, leb, List, Some, None, Option, sym, refl, ap, ◌∙◌, lt_irrefl, arith}
+use Rattle.std.proofs.Common.{◌≡◌, ℕ, ◌+◌, ◌<◌, ◌≤◌, false, leb, List, Some, None, sym, ◌∙◌, lt_irrefl, arith}
 use Rattle.std.proofs.lemmas.Bool.{leb-false}
 use Rattle.bits.specs.declared.halves.Halves.{Halves}
 use Rattle.model.specs.Maps.{put}

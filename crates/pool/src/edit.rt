@@ -1,5 +1,5 @@
 ghost use Rattle.std.specs.Prelude.{◌≡◌, ◌+◌, ◌<◌, ◌≤◌, length, Some, None, ◌≢◌, slice_set};
-ghost use Rattle.trie.specs.Nodes.{at, key as prefix-of, node_bit, with_hop, unlinked as fresh};
+ghost use Rattle.trie.specs.Nodes.{at, key as prefix_of, node_bit, with_hop, unlinked as fresh};
 ghost use Rattle.trie.specs.Trie.{Compressed, Leaf};
 ghost use Rattle.trie.specs.Changes.{with_leaf, with_split, Announced, Withdrawn};
 ghost use Rattle.pool.specs.Plans.{Suits, wanted};
@@ -82,7 +82,7 @@ fn put(ns: &mut [Node], used: usize, room: usize, key: Node, hop: Halves, plan: 
     requires some { key.hop ≡ Some hop }
     requires suits { Suits ns.old used key plan }
     requires fits { used + wanted plan ≤ room }
-    ensures { Announced ns.old used room (prefix-of key) hop ns.new (Some result) }
+    ensures { Announced ns.old used room (prefix_of key) hop ns.new (Some result) }
 {
     match plan {
         Plan::Root => {
@@ -119,7 +119,7 @@ pub fn insert(ns: &mut [Node], used: usize, room: usize, key: Node, hop: Halves)
     requires short { key.len ≤ 128 }
     requires leaf { Leaf key }
     requires some { key.hop ≡ Some hop }
-    ensures { Announced ns.old used room (prefix-of key) hop ns.new result }
+    ensures { Announced ns.old used room (prefix_of key) hop ns.new result }
 {
     match decide(ns, used, room, &key, hop) {
         Some(plan) => Some(put(ns, used, room, key, hop, plan)),
@@ -131,9 +131,9 @@ pub fn insert(ns: &mut [Node], used: usize, room: usize, key: Node, hop: Halves)
 fn take(ns: &mut [Node], used: usize, key: &Node, slot: usize) -> usize
     requires trie { Compressed ns.old used }
     requires slot { slot < used }
-    requires same { prefix-of (at ns.old slot) ≡ prefix-of key.now }
+    requires same { prefix_of (at ns.old slot) ≡ prefix_of key.now }
     requires routed { (at ns.old slot).hop ≢ None }
-    ensures { Withdrawn ns.old used (prefix-of key.now) ns.new (Some result) }
+    ensures { Withdrawn ns.old used (prefix_of key.now) ns.new (Some result) }
 {
     clear(ns, slot);
     release(ns, used, slot)
@@ -143,7 +143,7 @@ fn take(ns: &mut [Node], used: usize, key: &Node, slot: usize) -> usize
 pub fn remove(ns: &mut [Node], used: usize, key: &Node) -> Option<usize>
     requires trie { Compressed ns.old used }
     requires short { key.now.len ≤ 128 }
-    ensures { Withdrawn ns.old used (prefix-of key.now) ns.new result }
+    ensures { Withdrawn ns.old used (prefix_of key.now) ns.new result }
 {
     match locate(ns, used, key) {
         Some(slot) => Some(take(ns, used, key, slot)),

@@ -1,6 +1,6 @@
 ghost use Rattle.std.specs.Prelude.{◌≡◌, ◌+◌, ◌≤◌, Some, nat_le};
 ghost use Rattle.trie.specs.Trie.{Compressed};
-ghost use Rattle.pool.specs.Plans.{Meets, Suits, wanted as nodes-wanted, Planned};
+ghost use Rattle.pool.specs.Plans.{Meets, Suits, wanted as nodes_wanted, Planned};
 
 use bits::halves::Halves;
 use trie::node::Node;
@@ -54,7 +54,7 @@ pub enum Plan {
 impl Plan {
     // How many nodes it takes.
     fn wanted(self) -> usize
-        ensures { result ≡ nodes-wanted self }
+        ensures { result ≡ nodes_wanted self }
     {
         match self {
             Plan::Root => 1,

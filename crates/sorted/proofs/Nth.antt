@@ -1,11 +1,8 @@
 -- The route at a place of the order. Assumes nothing.
-use Rattle.std.proofs.Common.{◌≡◌, ℕ, zero, suc, ◌<◌, ◌≤◌, true, false, List, [], ◌∷◌, map, length, take, drop, Some, None, Ok, Err, Option, Result, sym, refl, ap, ◌∙◌, subst, arith}
+use Rattle.std.proofs.Common.{◌≡◌, ℕ, zero, suc, ◌<◌, ◌≤◌, true, List, [], ◌∷◌, length, drop, Some, None, Ok, Err, Result, sym, refl, ap, ◌∙◌, arith}
 use Rattle.bits.specs.Bits.{Bits}
 use Rattle.bits.specs.Halves.{front, Aligned, clear}
-use Rattle.bits.specs.declared.halves.Halves.{Halves}
 use Rattle.bits.proofs.Fronts.{front_length, front_front, clear_front, aligned_clear, aligned_wider}
-use Rattle.model.specs.Maps.{Route, Map}
-use Rattle.model.specs.Machine.{Stored}
 use Rattle.address.specs.Prefixes.{checked}
 use Rattle.address.proofs.Checked.{checked_fine}
 use Rattle.sorted.specs.declared.row.Row.{Row}

@@ -1,6 +1,6 @@
 -- The rows as a plane of addresses of w bits: what the rows hold, and what stays well-formed.
 use Rattle.std.proofs.Common.{◌≡◌, ℕ, suc, ◌<◌, ◌≤◌, true, false, List, [], ◌∷◌, map, length, get_or, take, Some, None, Option, sym, refl, ap, ◌∙◌, subst, arith}
-use Rattle.std.specs.List.{AllByRecursion as All}
+use Rattle.std.specs.List.{AllByRecursion}
 use Rattle.std.proofs.lemmas.List.{length-map, length-take-le, get_or-map, get_or-take}
 use Rattle.std.proofs.ByRecursion.{All-get_or, All-map}
 use Rattle.std.proofs.lemmas.Bool.{le-leb, lt-leb, leb-true, and_parts, and_from, true≢false}
@@ -32,7 +32,7 @@ routes_by w (x ∷ xs) = ap (λ t. route_of w x ∷ t) (routes_by w xs)
 pub routes_are : (w n : ℕ) (rows : List Row) → routes w n rows ≡ mapped (hop_of w) (entries n rows)
 routes_are w n rows = routes_by w (take n rows)
 
-all_rows : (P : Row → Type 0) (xs : List Row) → All (λ r. P r.value) (map entry_of xs) → All P xs
+all_rows : (P : Row → Type 0) (xs : List Row) → AllByRecursion (λ r. P r.value) (map entry_of xs) → AllByRecursion P xs
 all_rows P [] a = tt
 all_rows P (x ∷ xs) a = (a.0, all_rows P xs a.1)
 
@@ -41,7 +41,7 @@ all_rows P (x ∷ xs) a = (a.0, all_rows P xs a.1)
 pub each_one : (w n : ℕ) (rows : List Row) → WellFormed w n rows → n ≡ length (routes w n rows)
 each_one w n rows good = sym (length-map (take n rows) (route_of w) ∙ length-take-le n rows (omega (arith, good.few)))
 
-from_entries : (w n : ℕ) (rows : List Row) → n ≤ usable (length rows) → Rising (entries n rows) → All (λ r. RowOk w r.value) (entries n rows) → WellFormed w n rows
+from_entries : (w n : ℕ) (rows : List Row) → n ≤ usable (length rows) → Rising (entries n rows) → AllByRecursion (λ r. RowOk w r.value) (entries n rows) → WellFormed w n rows
 from_entries w n rows l g a = record {
   few = l;
   rising = subst Rising (sym (routes_are w n rows)) (rising_mapped (hop_of w) (entries n rows) g);
@@ -55,7 +55,7 @@ module _ (w n : ℕ) (rows : List Row) (good : WellFormed w n rows) where
   entries_rise : Rising (entries n rows)
   entries_rise = rising_unmapped (hop_of w) (entries n rows) (subst Rising (routes_are w n rows) good.rising)
 
-  entries_proper : All (λ r. RowOk w r.value) (entries n rows)
+  entries_proper : AllByRecursion (λ r. RowOk w r.value) (entries n rows)
   entries_proper = All-map (λ r. RowOk w r.value) entry_of (take n rows) good.proper
 
   pub proper_at : (k : ℕ) → k < n → RowOk w (at rows k)
@@ -75,7 +75,7 @@ module _ (w n : ℕ) (rows : List Row) (good : WellFormed w n rows) where
   pub inserted_good : (row : Row) (new : List Row) (k : ℕ) → length new ≡ length rows → RowOk w row → Inserted n (usable (length rows)) row rows new (Some k) → WellFormed w k new
   inserted_good row new k e ok i = from_entries w k new (omega (arith, i.0))
       (subst Rising (sym i.1) (put_rises (entries n rows) (key row) row entries_rise))
-      (subst (All (λ r. RowOk w r.value)) (sym i.1) (put_all (λ r. RowOk w r.value) (entries n rows) (key row) row ok entries_proper))
+      (subst (AllByRecursion (λ r. RowOk w r.value)) (sym i.1) (put_all (λ r. RowOk w r.value) (entries n rows) (key row) row ok entries_proper))
 
   pub inserted_plane : (row : Row) (new : List Row) (k : ℕ) → Inserted n (usable (length rows)) row rows new (Some k) → routes w k new ≡ put (routes w n rows) (key row) (hop_of w row)
   inserted_plane row new k i =
@@ -93,7 +93,7 @@ module _ (w n : ℕ) (rows : List Row) (good : WellFormed w n rows) where
   pub removed_good : (p : Bits) (new : List Row) (k : ℕ) → length new ≡ length rows → Removed n p rows new (Some k) → WellFormed w k new
   removed_good p new k e i = from_entries w k new (omega (arith, good.few, i.0))
       (subst Rising (sym i.1) (removed_rises (entries n rows) p entries_rise))
-      (subst (All (λ r. RowOk w r.value)) (sym i.1) (removed_all (λ r. RowOk w r.value) (entries n rows) p entries_proper))
+      (subst (AllByRecursion (λ r. RowOk w r.value)) (sym i.1) (removed_all (λ r. RowOk w r.value) (entries n rows) p entries_proper))
 
   pub removed_plane : (p : Bits) (new : List Row) (k : ℕ) → Removed n p rows new (Some k) → routes w k new ≡ removed (routes w n rows) p
   removed_plane p new k i =

@@ -1,6 +1,6 @@
 -- What the rows of a sorted list mean: the plane that the first of them hold, in order. The rows past those are free.
 use Rattle.std.specs.Prelude.{ℕ, zero, suc, ◌≤◌, List, [], ◌∷◌, map, length, take, Some, None, Option}
-use Rattle.std.specs.List.{AllByRecursion as All}
+use Rattle.std.specs.List.{AllByRecursion}
 use Rattle.bits.specs.Bits.{Bits}
 use Rattle.bits.specs.Halves.{front, Aligned, Fit}
 use Rattle.model.specs.Maps.{Route, Map, route, Rising}
@@ -36,7 +36,7 @@ pub record RowOk (w : ℕ) (row : Row) : Type 0 where
 pub record WellFormed (w n : ℕ) (rows : List Row) : Type 0 where
   pub few : n ≤ usable (length rows)
   pub rising : Rising (routes w n rows)
-  pub proper : All (RowOk w) (take n rows)
+  pub proper : AllByRecursion (RowOk w) (take n rows)
 
 -- a row as the value at its own prefix
 abbrev pub entry_of : Row → Route Row

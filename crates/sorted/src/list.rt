@@ -6,7 +6,7 @@ ghost use Rattle.table.specs.Meaning.{as_hop, as_answer};
 ghost use Rattle.model.specs.Tables.{plain, usable, rows_room};
 ghost use Rattle.model.specs.Stack.{table as leaf};
 ghost use Rattle.model.proofs.SoundLaws.{plain_local};
-ghost use Rattle.model.proofs.RoomLaws.{rows_room as rows-law};
+ghost use Rattle.model.proofs.RoomLaws.{rows_room as rows_law};
 ghost use Rattle.model.proofs.OnePlane.{one_described, rows_sound};
 ghost use Rattle.sorted.specs.Rows.{route_of, routes, nth, as_route, WellFormed};
 
@@ -148,7 +148,7 @@ impl<'a, A: Address> Table for Sorted<'a, A> {
 
     ghost local = { λ s. plain_local };
 
-    ghost roomy = { λ s i. rows-law (usable (length s.rows.now)) };
+    ghost roomy = { λ s i. rows_law (usable (length s.rows.now)) };
 
     ghost sound = { λ s v. rows_sound (route_of A.Address.width) (length s.rows.now) s.used s.rows.now v.few v.rising };
 

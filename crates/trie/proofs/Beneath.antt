@@ -1,8 +1,8 @@
 -- What is beneath a prefix, by its bits. Assumes nothing.
-use Rattle.std.proofs.Common.{◌≡◌, ℕ, zero, suc, ◌+◌, ◌-◌, ◌<◌, ◌≤◌, Bool, true, false, ◌⊎◌, List, [], ◌∷◌, ◌++◌, length, get_or, take, sym, refl, ap, ◌∙◌, subst, inl, inr, arith, length-append}
+use Rattle.std.proofs.Common.{◌≡◌, ℕ, ◌+◌, ◌-◌, ◌<◌, ◌≤◌, Bool, false, ◌⊎◌, [], ◌∷◌, ◌++◌, length, get_or, take, sym, refl, ap, ◌∙◌, inl, inr, arith, length-append}
 use Rattle.std.proofs.lemmas.Bool.{cases_lt}
 use Rattle.std.proofs.lemmas.List.{get_or_append_left, get_or-append_right, get_or-take, ext_get_or, length-take-le}
-use Rattle.bits.specs.Bits.{Bits, covers}
+use Rattle.bits.specs.Bits.{Bits}
 use Rattle.bits.proofs.Strings.{covers_starts, starts_covers}
 use Rattle.model.specs.Room.{Beneath}
 use Rattle.trie.specs.Trie.{Leads}

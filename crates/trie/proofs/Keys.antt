@@ -1,16 +1,16 @@
 -- Prefixes as lists of bits, and what a list of nodes holds.
-use Rattle.std.proofs.Common.{◌≡◌, ℕ, zero, suc, ◌+◌, ◌-◌, ◌<◌, ◌≤◌, min, Bool, true, false, cond, not, ◌&&◌, ◌≢◌, ◌⊎◌, List, [], ◌∷◌, ◌++◌, length, get_or, take, drop, Some, None, Option, sym, refl, ap, ◌∙◌, subst, inl, inr, suc-le-suc, zero-le, le_refl, le_of_suc-le-suc, not-suc-le-zero, add-one, arith, length-append, length-take}
-use Rattle.std.proofs.lemmas.Bool.{cases_lt, cases_eq, cases_Bool, cond-true, cond-false, true≢false, false≢true, and_parts, and_from}
-use Rattle.std.proofs.lemmas.List.{get_or_append_left, get_or-append_right, get_or-take, ext_get_or, length-take-le}
+use Rattle.std.proofs.Common.{◌≡◌, ℕ, zero, suc, ◌<◌, ◌≤◌, Bool, true, false, ◌⊎◌, List, [], ◌∷◌, length, get_or, take, Some, None, Option, sym, refl, ap, ◌∙◌, subst, inl, inr, suc-le-suc, le_refl, le_of_suc-le-suc, not-suc-le-zero, arith}
+use Rattle.std.proofs.lemmas.Bool.{cases_lt, cases_Bool, cond-true, cond-false, true≢false}
+use Rattle.std.proofs.lemmas.List.{get_or-take, ext_get_or, length-take-le}
 use Rattle.bits.specs.Bits.{Bits, equal}
-use Rattle.bits.specs.Halves.{word, front}
+use Rattle.bits.specs.Halves.{word}
 use Rattle.bits.specs.declared.halves.Halves.{Halves}
 use Rattle.bits.proofs.Orders.{equal_self, equal_is}
 use Rattle.bits.proofs.Fronts.{front_is, front_length}
-use Rattle.model.specs.Maps.{Map, Visible, held, Rising}
+use Rattle.model.specs.Maps.{Map, held, Rising}
 use Rattle.model.proofs.MapLaws.{put_holds, put_rises}
 use Rattle.trie.specs.declared.node.Node.{Node}
-use Rattle.trie.specs.Nodes.{at, node_bit, key, child, blank, with_route, collected, entries, holds}
+use Rattle.trie.specs.Nodes.{at, node_bit, key, blank, with_route, collected, holds}
 use Rattle.trie.specs.Trie.{Agree, Trie, Beyond, Under}
 use Rattle.trie.specs.Search.{Found}
 

@@ -1,16 +1,15 @@
 -- What a trie holds after a change.
-use Rattle.std.proofs.Common.{◌≡◌, ℕ, zero, suc, ◌+◌, ◌-◌, ◌<◌, ◌≤◌, Bool, true, false, cond, ◌≢◌, ◌⊎◌, List, length, get_or, set, Some, None, Option, sym, refl, ap, ◌∙◌, subst, inl, inr, le_refl, arith, length-set, get_or-set_other, get_or-set_same}
+use Rattle.std.proofs.Common.{◌≡◌, ℕ, suc, ◌<◌, ◌≤◌, Bool, false, ◌≢◌, ◌⊎◌, List, length, set, Some, None, Option, sym, refl, ap, ◌∙◌, subst, inl, inr, le_refl, arith, length-set, get_or-set_other, get_or-set_same}
 use mathlib.Core.Path.{fun_ext}
-use Rattle.std.proofs.lemmas.Bool.{cases_lt, cases_eq, cases_Bool, cond-true, cond-false, true≢false, false≢true}
+use Rattle.std.proofs.lemmas.Bool.{cases_eq, cases_Bool, cond-true, cond-false, true≢false}
 use Rattle.trie.specs.declared.node.Node.{Node}
-use Rattle.bits.specs.Bits.{Bits, equal}
+use Rattle.bits.specs.Bits.{equal}
 use Rattle.bits.specs.declared.halves.Halves.{Halves}
-use Rattle.model.specs.Maps.{Visible}
 use Rattle.trie.specs.Nodes.{node_bit, child, with_child, with_hop, at, blank, key, holds, altered}
-use Rattle.trie.specs.Trie.{Agree, Begins, Leads, Under, Beyond, Trie, Leaf}
+use Rattle.trie.specs.Trie.{Trie}
 use Rattle.trie.specs.Changes.{with_leaf, with_split}
 use Rattle.bits.proofs.Orders.{equal_is}
-use Rattle.trie.proofs.Keys.{equal_eq, equal_ne, holds_none, holds_some, slot_of, only}
+use Rattle.trie.proofs.Keys.{equal_eq, holds_none, holds_some, slot_of, only}
 use Rattle.trie.proofs.Grow.{each, old, after_u, after_i, after}
 
 -- from the slots of a trie f to those of g: one, ν, holds h at p, and the others hold what f's others do

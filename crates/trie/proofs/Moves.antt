@@ -1,12 +1,10 @@
 -- Slots that change places.
-use Rattle.std.proofs.Common.{◌≡◌, ℕ, zero, suc, ◌+◌, ◌-◌, ◌<◌, ◌≤◌, Bool, true, false, cond, ◌≢◌, ◌⊎◌, List, length, get_or, set, Some, None, sym, refl, ap, ◌∙◌, subst, inl, inr, le_refl, lt_irrefl, arith, length-set, get_or-set_other, get_or-set_same}
+use Rattle.std.proofs.Common.{◌≡◌, ℕ, ◌<◌, ◌≤◌, Bool, true, false, ◌≢◌, ◌⊎◌, List, length, get_or, set, None, sym, refl, ap, ◌∙◌, subst, inl, inr, lt_irrefl, arith, length-set, get_or-set_other, get_or-set_same}
 use Rattle.std.proofs.lemmas.Bool.{cases_lt, cases_eq, eq-eqb, ne_eqb, cond-true, cond-false, true≢false, false≢true}
 use Rattle.trie.specs.declared.node.Node.{Node}
-use Rattle.bits.specs.declared.halves.Halves.{Halves}
 use Rattle.trie.specs.Nodes.{node_bit, child, with_child, at, blank, key, holds}
-use Rattle.trie.specs.Trie.{Agree, Begins, Leads, Under, Beyond, Trie}
+use Rattle.trie.specs.Trie.{Under, Beyond, Trie}
 use Rattle.trie.specs.Changes.{swapped, bare, Moved, Parent}
-use Rattle.trie.proofs.Nodes.{under_refl, under_trans}
 use Rattle.trie.proofs.Grow.{child_with}
 use Rattle.trie.proofs.Shrink.{one_parent, renamed}
 use Rattle.trie.proofs.Maps.{same_holds}

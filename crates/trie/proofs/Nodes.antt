@@ -1,7 +1,6 @@
-use Rattle.std.proofs.Common.{◌≡◌, ℕ, zero, suc, ◌+◌, ◌-◌, ◌<◌, ◌≤◌, Bool, true, false, cond, ◌≢◌, ◌⊎◌, sym, refl, ap, ◌∙◌, subst, inl, inr, le_refl, not-suc-le-zero, arith}
-use Rattle.std.proofs.lemmas.Bool.{cases_lt, cases_eq}
+use Rattle.std.proofs.Common.{◌≡◌, ℕ, suc, ◌<◌, ◌≤◌, Bool, ◌≢◌, sym, refl, ap, ◌∙◌, subst, inl, inr, le_refl, not-suc-le-zero, arith}
+use Rattle.std.proofs.lemmas.Bool.{cases_lt}
 use Rattle.trie.specs.declared.node.Node.{Node}
-use Rattle.bits.specs.declared.halves.Halves.{Halves}
 use Rattle.trie.specs.Nodes.{node_bit, child}
 use Rattle.trie.specs.Trie.{Agree, Under, Beyond, Trie}
 use Rattle.trie.specs.Search.{Shared, Found, Way}

@@ -1,14 +1,14 @@
 -- The four ways of an announcement.
-use Rattle.std.proofs.Common.{◌≡◌, ℕ, zero, suc, ◌+◌, ◌-◌, ◌<◌, ◌≤◌, Bool, true, false, cond, ◌≢◌, ◌⊎◌, List, length, get_or, set, Some, None, Option, sym, refl, ap, ◌∙◌, subst, inl, inr, le_refl, not-suc-le-zero, lt_irrefl, arith, lit≤, length-set, get_or-set_same}
+use Rattle.std.proofs.Common.{◌≡◌, ℕ, suc, ◌<◌, ◌≤◌, Bool, true, false, ◌≢◌, List, length, set, None, Option, sym, refl, ap, ◌∙◌, subst, inl, inr, le_refl, not-suc-le-zero, lt_irrefl, arith, lit≤, length-set, get_or-set_same}
 use mathlib.Core.Path.{fun_ext}
 use Rattle.trie.proofs.Nodes.{under_refl}
-use Rattle.std.proofs.lemmas.Bool.{cases_lt, cases_eq, cases_Bool, cond-true, cond-false, cond_both}
+use Rattle.std.proofs.lemmas.Bool.{cond_both}
 use Rattle.trie.specs.declared.node.Node.{Node}
-use Rattle.bits.specs.Bits.{Bits, equal}
+use Rattle.bits.specs.Bits.{equal}
 use Rattle.bits.specs.declared.halves.Halves.{Halves}
 use Rattle.model.specs.Maps.{Visible}
 use Rattle.trie.specs.Nodes.{node_bit, child, with_child, with_hop, at, blank, key, holds, altered}
-use Rattle.trie.specs.Trie.{Agree, Begins, Leads, Under, Beyond, Trie, Leaf, Compressed}
+use Rattle.trie.specs.Trie.{Agree, Under, Beyond, Trie, Leaf, Compressed}
 use Rattle.trie.specs.Search.{Found}
 use Rattle.trie.specs.Changes.{with_leaf, with_split, Placed}
 use Rattle.bits.proofs.Orders.{equal_is}

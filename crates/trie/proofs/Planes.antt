@@ -1,14 +1,14 @@
 -- The nodes as a plane of addresses of w bits: what a call does to the plane, by what it does to the nodes.
-use Rattle.std.proofs.Common.{◌≡◌, ℕ, ◌+◌, ◌<◌, ◌≤◌, Bool, true, false, not, ◌⊎◌, ◌↔◌, List, [], ◌∷◌, map, length, is_some, Some, None, filter, Option, sym, refl, ap, ◌∙◌, subst, inl, inr, arith}
+use Rattle.std.proofs.Common.{◌≡◌, ℕ, ◌+◌, ◌<◌, ◌≤◌, Bool, true, not, ◌⊎◌, ◌↔◌, List, [], ◌∷◌, length, is_some, Some, None, filter, Option, sym, refl, ap, ◌∙◌, subst, inl, inr, arith}
 use mathlib.Core.Path.{fun_ext}
-use Rattle.std.specs.List.{AllByRecursion as All}
+use Rattle.std.specs.List.{AllByRecursion}
 use Rattle.std.proofs.lemmas.List.{length-map}
 use Rattle.std.proofs.lemmas.Bool.{le-leb}
 use Rattle.bits.specs.Bits.{Bits, covers, common}
 use Rattle.bits.specs.Halves.{word, front}
 use Rattle.bits.specs.declared.halves.Halves.{Halves}
 use Rattle.bits.proofs.Fronts.{front_is, covers_front}
-use Rattle.model.specs.Maps.{Map, held, put, removed, Rising}
+use Rattle.model.specs.Maps.{Map, held, put, removed}
 use Rattle.model.specs.Longest.{answer, Candidate}
 use Rattle.model.specs.Room.{Held, Branch, In, partings, branches, nodes, fits_nodes}
 use Rattle.model.specs.Machine.{Hop, Plane, on, announce, withdraw, done, refused}
@@ -95,7 +95,7 @@ module _ (w u : ℕ) (ns : List Node) (good : WellFormed w u ns) where
       few = subst (λ (n : ℕ). v ≤ usable n) (sym e) x.1;
       trie = x.0;
       count = plane_nodes w v ms x.0;
-      hops = subst (All (λ r. AddressHalves w r.value)) (sym x.2) (put_all (λ r. AddressHalves w r.value) (entries u ns) p h ok good.hops);
+      hops = subst (AllByRecursion (λ r. AddressHalves w r.value)) (sym x.2) (put_all (λ r. AddressHalves w r.value) (entries u ns) p h ok good.hops);
     }
 
     pub announced : (ms : List Node) (v i : ℕ) → i ≡ 0 → Announced ns u (usable (length ns)) p h ms (Some v)
@@ -121,7 +121,7 @@ module _ (w u : ℕ) (ns : List Node) (good : WellFormed w u ns) where
     few = subst (λ (n : ℕ). v ≤ usable n) (sym e) (omega (arith, x.1, good.few));
     trie = x.0;
     count = plane_nodes w v ms x.0;
-    hops = subst (All (λ r. AddressHalves w r.value)) (sym x.2) (removed_all (λ r. AddressHalves w r.value) (entries u ns) p good.hops);
+    hops = subst (AllByRecursion (λ r. AddressHalves w r.value)) (sym x.2) (removed_all (λ r. AddressHalves w r.value) (entries u ns) p good.hops);
   }
 
   pub withdrawn : (p : Bits) (ms : List Node) (v i : ℕ) → i ≡ 0 → Withdrawn ns u p ms (Some v)

@@ -1,16 +1,15 @@
 -- Slots given back.
-use Rattle.std.proofs.Common.{◌≡◌, ℕ, zero, suc, ◌+◌, ◌-◌, ◌<◌, ◌≤◌, Bool, true, false, cond, eqb, ◌≢◌, ◌⊎◌, List, length, get_or, set, Some, None, Option, sym, refl, ap, ◌∙◌, subst, inl, inr, le_refl, not-suc-le-zero, lt_irrefl, arith, length-set, get_or-set_other, get_or-set_same}
+use Rattle.std.proofs.Common.{◌≡◌, ℕ, suc, ◌-◌, ◌<◌, ◌≤◌, Bool, cond, eqb, ◌≢◌, List, length, set, None, sym, refl, ap, ◌∙◌, subst, inl, inr, not-suc-le-zero, lt_irrefl, arith, length-set, get_or-set_other, get_or-set_same}
 use Rattle.std.proofs.lemmas.Bool.{cases_lt, cases_eq, eq-eqb, ne_eqb, cond-true, cond-false}
 use Rattle.trie.specs.declared.node.Node.{Node}
-use Rattle.bits.specs.declared.halves.Halves.{Halves}
 use Rattle.trie.specs.Nodes.{node_bit, child, with_child, with_hop, at, blank, key, holds, altered}
-use Rattle.trie.specs.Trie.{Begins, Leads, Under, Beyond, Trie, Leaf, Compressed}
+use Rattle.trie.specs.Trie.{Beyond, Trie, Leaf, Compressed}
 use Rattle.trie.specs.Search.{Found}
-use Rattle.trie.specs.Changes.{swapped, bare, Moved, Parent, Loose, Pruned, Unlinked, Dropped}
+use Rattle.trie.specs.Changes.{swapped, Moved, Parent, Loose, Pruned, Unlinked, Dropped}
 use Rattle.trie.proofs.Keys.{key_same, holds_some, only}
 use Rattle.trie.proofs.Grow.{leaf_child}
 use Rattle.trie.proofs.Maps.{same_holds, hop_each, hop_trie, hop_holds}
-use Rattle.trie.proofs.Moves.{swapped_l, swapped_r, swapped_o, swapped_back, swapped_in, relink_bare, relink_hit, relink_miss, moved_nil, moved_trie, moved_in, moved_holds, moved_hop, moved_link, moved_some, moved_forks}
+use Rattle.trie.proofs.Moves.{swapped_l, swapped_r, swapped_back, swapped_in, relink_bare, relink_hit, relink_miss, moved_nil, moved_trie, moved_in, moved_holds, moved_hop, moved_link, moved_some, moved_forks}
 use Rattle.trie.proofs.Shrink.{unlinked, pulled}
 
 -- the one child of slot i in its place

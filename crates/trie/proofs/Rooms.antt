@@ -1,20 +1,17 @@
 -- The trie has a node for each route and each branch of what it holds, and no other.
-use Rattle.std.proofs.Common.{◌≡◌, ℕ, zero, suc, ◌+◌, ◌-◌, ◌<◌, ◌≤◌, Bool, true, false, cond, ◌≢◌, ◌⊎◌, ◌↔◌, List, [], ◌∷◌, length, get_or, take, Some, None, Option, sym, refl, ap, ◌∙◌, subst, inl, inr, suc-le-suc, le_of_suc-le-suc, not-suc-le-zero, lt_irrefl, arith}
-use mathlib.Core.Path.{fun_ext}
-use Rattle.std.specs.List.{AllByRecursion as All}
-use Rattle.std.proofs.lemmas.Bool.{cases_lt, cases_eq, cases_Bool, cond-true, cond-false, cond_both, true≢false, false≢true}
+use Rattle.std.proofs.Common.{◌≡◌, ℕ, zero, suc, ◌+◌, ◌<◌, ◌≤◌, Bool, true, false, ◌≢◌, ◌⊎◌, ◌↔◌, List, [], ◌∷◌, length, get_or, take, Some, None, Option, sym, refl, ap, ◌∙◌, subst, inl, inr, suc-le-suc, le_of_suc-le-suc, not-suc-le-zero, lt_irrefl, arith}
+use Rattle.std.specs.List.{AllByRecursion}
+use Rattle.std.proofs.lemmas.Bool.{cases_lt, cases_eq, cond-true, cond-false, cond_both, true≢false, false≢true}
 use Rattle.std.proofs.lemmas.List.{ext_get_or, length-map, length-take-le}
 use Rattle.bits.specs.Bits.{Bits, equal}
 use Rattle.bits.specs.declared.halves.Halves.{Halves}
-use Rattle.bits.proofs.Orders.{equal_is}
-use Rattle.model.specs.Maps.{Visible, held, put}
-use Rattle.model.specs.Room.{Held, Beneath, Branch, In, Distinct, Fits, nodes, fits_nodes}
-use Rattle.model.proofs.MapLaws.{put_holds, put_rises}
-use Rattle.model.proofs.RoomLaws.{counts, fits_same}
+use Rattle.model.specs.Maps.{Visible}
+use Rattle.model.specs.Room.{Held, Beneath, Branch, In, Distinct, Fits, nodes}
+use Rattle.model.proofs.RoomLaws.{counts}
 use Rattle.model.proofs.Members.{all_in}
 use Rattle.trie.specs.declared.node.Node.{Node}
 use Rattle.trie.specs.Nodes.{at, node_bit, key, child, unlinked, entries, holds, altered}
-use Rattle.trie.specs.Trie.{Agree, Under, Beyond, Trie, Compressed}
+use Rattle.trie.specs.Trie.{Agree, Under, Beyond, Compressed}
 use Rattle.trie.specs.Search.{Found}
 use Rattle.trie.specs.Well.{prefixes}
 use Rattle.trie.proofs.Nodes.{under_refl, under_trans, beyond_under, beyond_further}
@@ -191,7 +188,7 @@ module _ (ns : List Node) (u : ℕ) (g : Compressed ns u) where
     route_stays : (j : ℕ) → j < u → ((at ns j).hop ≡ None → ⊥) → Held after_map (key (at ns j))
     route_stays j h s = cond_both (equal (key k) (key (at ns j))) k.hop (holds ns u (key (at ns j))) (λ (o : Option Halves). o ≡ None → ⊥) (λ _. some) (λ _ e. s (sym (slot_holds j h) ∙ e))
 
-    all_count : All (λ p. Held after_map p ⊎ Branch after_map p) (prefixes u ns)
+    all_count : AllByRecursion (λ p. Held after_map p ⊎ Branch after_map p) (prefixes u ns)
     all_count = all_in (λ p. Held after_map p ⊎ Branch after_map p) (prefixes u ns) (prefixes_count after_map route_stays)
 
     -- a new prefix wants one slot more

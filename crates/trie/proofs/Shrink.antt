@@ -1,11 +1,10 @@
 -- A trie with its slots exchanged, or with its last slot given back.
-use Rattle.std.proofs.Common.{◌≡◌, ℕ, zero, suc, ◌+◌, ◌-◌, ◌<◌, ◌≤◌, Bool, true, false, cond, not, ◌≢◌, ◌⊎◌, sym, refl, ap, ◌∙◌, subst, inl, inr, lt_trans, le_refl, lt_irrefl, arith}
-use Rattle.std.proofs.lemmas.Bool.{cases_lt, cases_eq, cases_order, cases_Bool, true≢false, false≢true}
+use Rattle.std.proofs.Common.{◌≡◌, ℕ, suc, ◌<◌, ◌≤◌, Bool, true, false, ◌≢◌, ◌⊎◌, sym, refl, ap, ◌∙◌, subst, inl, inr, le_refl, lt_irrefl, arith}
+use Rattle.std.proofs.lemmas.Bool.{cases_lt, cases_eq, cases_order, true≢false, false≢true}
 use Rattle.trie.specs.declared.node.Node.{Node}
-use Rattle.bits.specs.declared.halves.Halves.{Halves}
-use Rattle.trie.specs.Nodes.{node_bit, child, with_child}
-use Rattle.trie.specs.Trie.{Agree, Begins, Leads, Under, Beyond, Trie, Leaf}
-use Rattle.trie.proofs.Nodes.{under_refl, under_trans, beyond_under, beyond_further}
+use Rattle.trie.specs.Nodes.{node_bit, child}
+use Rattle.trie.specs.Trie.{Agree, Begins, Leads, Under, Beyond, Trie}
+use Rattle.trie.proofs.Nodes.{beyond_under, beyond_further}
 
 -- slot c has one parent
 pub one_parent : (f : ℕ → Node) (u : ℕ) → Trie f u → (a b : Bool) (i j c : ℕ) → i < u → j < u → c < u → child a (f i) ≡ c → child b (f j) ≡ c → (i ≡ j) × (a ≡ b)

@@ -1,6 +1,6 @@
 -- When the storage of a trie is well-formed.
 use Rattle.std.specs.Prelude.{◌≡◌, ℕ, ◌≤◌, ◌⊎◌, ◌↔◌, List, map, length, take}
-use Rattle.std.specs.List.{AllByRecursion as All}
+use Rattle.std.specs.List.{AllByRecursion}
 use Rattle.bits.specs.Bits.{Bits}
 use Rattle.bits.specs.Halves.{Aligned, Fit}
 use Rattle.bits.specs.declared.halves.Halves.{Halves}
@@ -22,7 +22,7 @@ pub record WellFormed (w u : ℕ) (ns : List Node) : Type 0 where
   pub few : u ≤ usable (length ns)
   pub trie : Compressed ns u
   pub count : nodes (routes w u ns) ≡ u
-  pub hops : All (λ r. AddressHalves w r.value) (entries u ns)
+  pub hops : AllByRecursion (λ r. AddressHalves w r.value) (entries u ns)
 
 -- the prefixes of the first u nodes
 abbrev pub prefixes : ℕ → List Node → List Bits

@@ -1,7 +1,7 @@
 ghost use Rattle.std.specs.Prelude.{◌≡◌, ◌<◌, ◌≤◌, min, not, ◌&&◌, ◌||◌, length, if◌then◌else◌, Some, None, ◌==◌, nat_le};
 ghost use Rattle.bits.specs.Bits.{covers, common};
 ghost use Rattle.bits.specs.Halves.{word, front};
-ghost use Rattle.trie.specs.Nodes.{at, key as prefix-of, holds, unlinked as fresh};
+ghost use Rattle.trie.specs.Nodes.{at, key as prefix_of, holds, unlinked as fresh};
 ghost use Rattle.trie.specs.Trie.{Trie, Compressed};
 ghost use Rattle.trie.specs.Search.{Found, Located, Best};
 
@@ -58,7 +58,7 @@ pub fn seek(ns: &[Node], used: usize, key: &Node) -> End
 pub fn locate(ns: &[Node], used: usize, key: &Node) -> Option<usize>
     requires trie { Compressed ns.now used }
     requires short { key.now.len ≤ 128 }
-    ensures { Located ns.now used (prefix-of key.now) result }
+    ensures { Located ns.now used (prefix_of key.now) result }
 {
     if used == 0 {
         return None;
@@ -75,7 +75,7 @@ pub fn locate(ns: &[Node], used: usize, key: &Node) -> Option<usize>
 pub fn find(ns: &[Node], used: usize, key: &Node) -> Option<Halves>
     requires trie { Compressed ns.now used }
     requires short { key.now.len ≤ 128 }
-    ensures { result ≡ holds ns.now used (prefix-of key.now) }
+    ensures { result ≡ holds ns.now used (prefix_of key.now) }
 {
     match locate(ns, used, key) {
         Some(slot) => ns[slot].hop,

@@ -1,5 +1,4 @@
-use Rattle.std.proofs.Common.{◌≡◌, ℕ, ◌≤◌, sym, refl, ap, ◌∙◌, subst, arith}
-use Rattle.bits.specs.Bits.{Bits}
+use Rattle.std.proofs.Common.{◌≤◌, sym, refl, ap, ◌∙◌, subst, arith}
 use Rattle.bits.proofs.Fronts.{prefix_front}
 use Rattle.trie.specs.declared.node.Node.{Node}
 use Rattle.trie.specs.Nodes.{key}

@@ -1,4 +1,4 @@
-use Rattle.std.proofs.Common.{◌≡◌, ℕ, suc, ◌+◌, ◌<◌, ◌≤◌, Bool, List, set, Some, None, sym, refl, ap, ◌∙◌, subst, arith}
+use Rattle.std.proofs.Common.{◌≡◌, ℕ, suc, ◌+◌, ◌≤◌, Bool, set, Some, None, sym, refl, ap, ◌∙◌, subst, arith}
 use Rattle.bits.specs.declared.halves.Halves.{Halves}
 use Rattle.model.proofs.MapLaws.{none≢some}
 use Rattle.trie.specs.declared.node.Node.{Node}
@@ -8,7 +8,6 @@ use Rattle.trie.specs.Changes.{with_leaf, with_split, Placed}
 use Rattle.trie.proofs.Entries.{placed_is}
 use Rattle.trie.proofs.Placing.{placed_at, way_first, way_exact, way_leaf, way_above, way_fork}
 use Rattle.pool.specs.declared.plan.Plan.{Plan}
-use Rattle.pool.specs.declared.plan.Plan.TheVariants.{Root, Set, Leaf, Middle, Fork}
 use Rattle.pool.specs.Plans.{Suits, wanted}
 use Rattle.pool.proofs.edit.put.Goals as goal
 

@@ -1,4 +1,4 @@
-use Rattle.std.proofs.Common.{◌≡◌, List, None, sym, ap, ◌∙◌, subst, arith, get_or-set_same}
+use Rattle.std.proofs.Common.{List, None, sym, ap, ◌∙◌, subst, arith, get_or-set_same}
 use Rattle.trie.specs.declared.node.Node.{Node}
 use Rattle.trie.specs.Nodes.{at, blank, with_hop}
 use Rattle.trie.specs.Changes.{Loose, Pruned}

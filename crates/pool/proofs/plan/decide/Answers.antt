@@ -1,4 +1,4 @@
-use Rattle.std.proofs.Common.{◌≡◌, ℕ, ◌+◌, leb, sym, ap, ◌∙◌}
+use Rattle.std.proofs.Common.{ℕ, ◌+◌, leb, sym, ap, ◌∙◌}
 use Rattle.pool.proofs.Plans.{no_room_for}
 use Rattle.pool.proofs.plan.decide.Goals as goal
 

@@ -1,4 +1,4 @@
-use Rattle.std.proofs.Common.{◌≡◌, ◌<◌, ◌≤◌, sym, ◌∙◌, lt_of_lt_of_le, arith}
+use Rattle.std.proofs.Common.{◌<◌, ◌≤◌, sym, ◌∙◌, lt_of_lt_of_le, arith}
 use Rattle.trie.specs.Nodes.{at}
 use Rattle.trie.proofs.Moves.{down, down_len, Step}
 use Rattle.pool.proofs.release.parent.Goals as goal

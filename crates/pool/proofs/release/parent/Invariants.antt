@@ -1,4 +1,4 @@
-use Rattle.std.proofs.Common.{◌≡◌, ℕ, ◌-◌, ◌<◌, ◌≢◌}
+use Rattle.std.proofs.Common.{◌-◌, ◌<◌, ◌≢◌}
 use Rattle.trie.specs.Nodes.{at}
 use Rattle.trie.specs.Trie.{Under}
 use Rattle.pool.proofs.release.parent.Given as goal

@@ -1,4 +1,4 @@
-use Rattle.std.proofs.Common.{ℕ, ◌-◌, None}
+use Rattle.std.proofs.Common.{◌-◌, None}
 use Rattle.trie.specs.Nodes.{at, unlinked}
 use Rattle.trie.specs.Search.{Scan}
 use Rattle.trie.proofs.search.best.Given as goal

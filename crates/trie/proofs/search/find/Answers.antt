@@ -1,4 +1,4 @@
-use Rattle.std.proofs.Common.{◌≡◌, sym, ap, ◌∙◌}
+use Rattle.std.proofs.Common.{sym, ap, ◌∙◌}
 use Rattle.trie.specs.Nodes.{holds}
 use Rattle.trie.proofs.Rooms.{slot_holds}
 use Rattle.trie.proofs.search.find.Goals as goal

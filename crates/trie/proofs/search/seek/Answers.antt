@@ -1,6 +1,6 @@
-use Rattle.std.proofs.Common.{◌≡◌, ℕ, suc, ◌<◌, ◌≤◌, Bool, sym, refl, ap, ◌∙◌, arith}
-use Rattle.trie.specs.Nodes.{at, node_bit, child}
-use Rattle.trie.specs.Search.{Shared, Way}
+use Rattle.std.proofs.Common.{suc, ◌<◌, ◌≤◌, Bool, sym, ap, ◌∙◌, arith}
+use Rattle.trie.specs.Nodes.{at, child}
+use Rattle.trie.specs.Search.{Way}
 use Rattle.trie.proofs.Commons.{shared_is}
 use Rattle.trie.proofs.Nodes.{way_found, way_next}
 use Rattle.trie.proofs.search.seek.Goals as goal

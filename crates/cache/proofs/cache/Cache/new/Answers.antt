@@ -1,4 +1,4 @@
-use Rattle.std.proofs.Common.{◌≡◌, min, List, replicate, None, sym, refl, ap, ◌∙◌, subst}
+use Rattle.std.proofs.Common.{min, List, replicate, None, sym, refl, ap, ◌∙◌, subst}
 use Rattle.model.specs.Slots.{Slot}
 use Rattle.model.specs.Stack.{cache, AllUpToDate}
 use Rattle.model.proofs.CacheLaws.{slots_empty, current_empty}

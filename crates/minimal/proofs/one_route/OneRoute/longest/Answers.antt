@@ -1,4 +1,4 @@
-use Rattle.std.proofs.Common.{◌≡◌, sym, ap, arith}
+use Rattle.std.proofs.Common.{sym, ap, arith}
 use Rattle.model.proofs.OneRoute.{answer_empty, answer_matched, answer_unmatched}
 use Rattle.minimal.specs.Held.{plane_of}
 use Rattle.minimal.proofs.one_route.OneRoute.longest.Goals as goal

@@ -1,9 +1,8 @@
-use Rattle.std.proofs.Common.{◌≡◌, Some, None, Option, sym, ap, ◌∙◌}
-use Rattle.bits.specs.Bits.{Bits}
+use Rattle.std.proofs.Common.{◌≡◌, Some, sym, ap, ◌∙◌}
 use Rattle.bits.specs.Halves.{front}
 use Rattle.model.specs.Maps.{held}
 use Rattle.model.proofs.Mapped.{made}
-use Rattle.trie.specs.Nodes.{entries, routes}
+use Rattle.trie.specs.Nodes.{entries}
 use Rattle.trie.specs.Well.{AddressHalves}
 use Rattle.trie.proofs.Planes.{plane_holds, held_proper}
 use Rattle.patricia.proofs.patricia.Patricia.hop_of.Goals as goal

@@ -1,8 +1,7 @@
-use Rattle.std.proofs.Common.{◌≡◌, ℕ, List, length, Some, None, sym, refl, ap, ◌∙◌, subst, arith}
+use Rattle.std.proofs.Common.{◌≡◌, ℕ, List, length, Some, None, sym, ap, ◌∙◌, subst}
 use Rattle.std.proofs.lemmas.Bool.{true≢false, eqb-true}
 use Rattle.bits.specs.Bits.{Bits}
 use Rattle.bits.specs.Halves.{front}
-use Rattle.bits.specs.declared.halves.Halves.{Halves}
 use Rattle.model.specs.Tables.{usable, nodes_room}
 use Rattle.model.proofs.OnePlane.{single_does}
 use Rattle.trie.specs.declared.node.Node.{Node}

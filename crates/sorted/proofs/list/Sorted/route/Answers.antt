@@ -1,11 +1,9 @@
-use Rattle.std.proofs.Common.{◌≡◌, ◌<◌, ◌≤◌, length, Some, sym, ap, ◌∙◌, subst, arith}
+use Rattle.std.proofs.Common.{◌≡◌, Some, sym, ap, ◌∙◌, subst, arith}
 use Rattle.bits.specs.Halves.{front, Aligned}
 use Rattle.bits.proofs.Fronts.{aligned_wider}
-use Rattle.model.specs.Maps.{route}
 use Rattle.address.specs.Prefixes.{checked}
 use Rattle.sorted.specs.declared.row.Row.{Row}
 use Rattle.sorted.specs.Rows.{RowOk, route_of, key}
-use Rattle.sorted.specs.Places.{at}
 use Rattle.sorted.proofs.Planes.{proper_at}
 use Rattle.sorted.proofs.Nth.{nth_here, nth_past, row_checked, ok_is, err_not}
 use Rattle.sorted.proofs.list.Sorted.route.Goals as goal
