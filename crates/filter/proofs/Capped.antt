@@ -1,8 +1,7 @@
--- The first bits of halves and of addresses, at most all that there are. Assumes nothing.
-use Rattle.std.proofs.Common.{◌≡◌, ℕ, ◌<◌, ◌≤◌, min, ◌⊎◌, length, take, sym, refl, ap, ◌∙◌, inl, inr, arith}
+-- The first bits of halves, at most all 128. Assumes nothing.
+use Rattle.std.proofs.Common.{◌≡◌, ℕ, ◌<◌, ◌≤◌, min, ◌⊎◌, sym, ap, ◌∙◌, inl, inr, arith}
 use Rattle.std.proofs.lemmas.List.{take_all}
 use Rattle.std.proofs.lemmas.Bool.{cases_lt}
-use Rattle.bits.specs.Bits.{Bits}
 use Rattle.bits.specs.Halves.{word, front}
 use Rattle.bits.specs.declared.halves.Halves.{Halves}
 use Rattle.bits.proofs.Fronts.{front_is, front_whole, word_length}
@@ -15,10 +14,3 @@ front_capped n m h e = go (cases_lt n 128)
     go (inr l) =
         let k : m ≡ 128 = omega arith in
         front_is n h ∙ take_all n (word h) (omega (arith, word_length h)) ∙ sym (front_whole h) ∙ ap (λ t. front t h) (sym k)
-
-pub take_capped : (n m : ℕ) (a : Bits) → m ≡ min n (length a) → take m a ≡ take n a
-take_capped n m a e = go (cases_lt n (length a))
-  where
-    go : (n < length a) ⊎ (length a ≤ n) → take m a ≡ take n a
-    go (inl l) = let k : m ≡ n = omega arith in ap (λ t. take t a) k
-    go (inr l) = take_all m a (omega arith) ∙ sym (take_all n a l)

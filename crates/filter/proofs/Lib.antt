@@ -1,3 +1,4 @@
 pub mod Places
 pub mod Verdicts
 pub mod Capped
+pub mod Bounds

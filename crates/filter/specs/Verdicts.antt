@@ -1,5 +1,5 @@
 -- What an answer of the table below comes to.
-use Rattle.std.specs.Prelude.{◌≡◌, ℕ, ◌-◌, cond, List, take, Some, None, Ok, Err, Option, Result, ◌==◌}
+use Rattle.std.specs.Prelude.{◌≡◌, ℕ, ◌-◌, ◌≤◌, cond, List, take, Some, None, Ok, Err, Option, Result, ◌==◌}
 use Rattle.bits.specs.Bits.{Bits}
 use Rattle.model.specs.Machine.{Reply}
 use Rattle.model.specs.Views.{Rule, permits}
@@ -7,6 +7,11 @@ use Rattle.table.specs.Meaning.{of_lookup}
 use Rattle.table.specs.declared.calls.Refusal.{Refusal}
 use Rattle.filter.specs.declared.verdict.Verdict.{Verdict}
 use Rattle.filter.specs.declared.verdict.Verdict.TheVariants.{Answer, Ask}
+
+-- a found route is no longer than w
+abbrev pub NoLonger : {A : Type 0} → ℕ → Option (ℕ × A) → Type 0
+NoLonger w None = Unit {0}
+NoLonger w (Some x) = x.0 ≤ w
 
 -- the bound below a denied route, if there is one
 abbrev pub below_denied : {A : Type 0} → ℕ → Verdict A

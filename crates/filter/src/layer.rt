@@ -102,6 +102,7 @@ impl<T: Table> Filter<T> {
     }
 
     // Asks the table below once, and judges its answer.
+    #[tactic(auto, using(crate::proofs::Bounds::answer_at_most))]
     fn ask(&mut self, address: T::Addr, bound: u8) -> Result<Verdict<T::Addr>, Refusal>
         requires { T.Table.valid self.old.inner }
         ensures valid { T.Table.valid self.new.inner }

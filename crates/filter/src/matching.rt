@@ -83,11 +83,11 @@ fn first_end<A: Address>(rules: &[Option<Entry>], address: A, n: u8) -> usize
     rules.len()
 }
 
-// Whether the first rule that matches a route to the address's prefix of `n` bits (all bits, if there are fewer) permits it; where none
-// matches it is denied.
+// Whether the first rule that matches a route to the address's prefix of `n` bits permits it; where none matches it is denied.
 pub(crate) fn first_match<A: Address>(rules: &[Option<Entry>], address: A, n: u8) -> bool
+    requires { n ≤ A.Address.width }
     ensures { result ≡ permits (rules_in rules.now) (take n (A.Address.bits address)) }
 {
-    let i = first_end(rules, address, n.min(A::wide()));
+    let i = first_end(rules, address, n);
     i < rules.len() && permits_at(rules[i])
 }

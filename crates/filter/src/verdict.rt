@@ -1,6 +1,6 @@
 ghost use Rattle.std.specs.Prelude.{◌≡◌, nat_lt};
 ghost use Rattle.filter.specs.Policies.{rules_in};
-ghost use Rattle.filter.specs.Verdicts.{verdict};
+ghost use Rattle.filter.specs.Verdicts.{NoLonger, verdict};
 
 use crate::entry::Entry;
 use crate::matching::first_match;
@@ -21,6 +21,7 @@ pub(crate) fn judge<A: Address>(
     address: A,
     found: Option<(u8, A)>,
 ) -> Verdict<A>
+    requires { NoLonger A.Address.width found }
     ensures { result ≡ verdict (rules_in rules.now) (A.Address.bits address) found }
 {
     match found {
