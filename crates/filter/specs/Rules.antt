@@ -1,5 +1,5 @@
 -- The rules of a policy as rules of the model.
-use Rattle.std.specs.Prelude.{ℕ, Bool, true, false, ◌&&◌, List, length, nat_le}
+use Rattle.std.specs.Prelude.{ℕ, Bool, true, false, ◌&&◌, length, nat_le}
 use Rattle.bits.specs.Bits.{Bits}
 use Rattle.bits.specs.Halves.{front}
 use Rattle.model.specs.Views as views

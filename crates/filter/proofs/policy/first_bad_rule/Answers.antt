@@ -1,4 +1,4 @@
-use Rattle.std.proofs.Common.{◌≡◌, List, map, drop, sym, refl, ap, ◌∙◌}
+use Rattle.std.proofs.Common.{map, sym, refl, ap, ◌∙◌}
 use Rattle.std.proofs.lemmas.List.{drop_all}
 use Rattle.filter.specs.Rules.{as_rule}
 use Rattle.filter.specs.Policies.{first_bad}

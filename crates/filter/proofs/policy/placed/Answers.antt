@@ -1,4 +1,4 @@
-use Rattle.std.proofs.Common.{◌≡◌, ◌<◌, map, ap, ◌∙◌, arith}
+use Rattle.std.proofs.Common.{◌<◌, map, ap, ◌∙◌, arith}
 use Rattle.std.proofs.lemmas.List.{take_all}
 use Rattle.filter.specs.Rules.{as_rule}
 use Rattle.filter.proofs.Places.{holds_none, holds_more, holds_rules}

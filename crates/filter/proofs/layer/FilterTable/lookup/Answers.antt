@@ -1,7 +1,7 @@
-use Rattle.std.proofs.Common.{◌≡◌, suc, ◌<◌, ◌≤◌, true, false, length, sym, refl, ap, ◌∙◌, arith}
+use Rattle.std.proofs.Common.{suc, ◌<◌, ◌≤◌, length, sym, refl, ap, ◌∙◌, arith}
 use Rattle.std.proofs.lemmas.Bool.{false≢true, ltb-true, ltb-false, le-leb, lt-leb}
 use Rattle.model.proofs.Steps.{at, does_of}
-use Rattle.model.proofs.FilterLaws.{Asked, filter_too_long, asked_none, asked_within, asked_more, asked_all}
+use Rattle.model.proofs.FilterLaws.{filter_too_long, asked_none, asked_within, asked_more, asked_all}
 use Rattle.filter.specs.Policies.{rules_of}
 use Rattle.filter.specs.Verdicts.{verdict}
 use Rattle.filter.proofs.Verdicts.{stands, asks, heard, unheard}
