@@ -1,13 +1,13 @@
 // The smallest table, and the example for whoever writes another. An implementation of `Table` gives
-// - `planes`: the prefix maps that its storage stands for, here one of at most one route (`plane-of`);
+// - `planes`: the prefix maps that its storage stands for, here one of at most one route (`plane_of`);
 // - `view`: the map that lookups see, here the plane as it is (`plain`);
-// - `room`: which maps fit a plane, here those of at most one route (`one-room`);
+// - `room`: which maps fit a plane, here those of at most one route (`one_room`);
 // - `stack`: for a table the leaf of these three, for a layer the stack that it stands on, with the layer;
 // - `valid`: what the calls need of the storage, here nothing;
 // - the laws `described`, `local`, `roomy`, `sound` and `current`, as terms: of the model's proofs, OnePlane, SoundLaws and RoomLaws have
 //   them for tables of one plane, OneRoute for planes of at most one route;
 // - the calls `plane_count`, `announce`, `withdraw`, `fetch` and `lookup`. Private functions say what is held and found in the plane;
-//   from there each call is proved with no more said, or else by `single-does` and the lemma for its outcome, both of OnePlane.
+//   from there each call is proved with no more said, or else by `single_does` and the lemma for its outcome, both of OnePlane.
 ghost use Rattle.std.specs.Prelude.{◌≡◌, ◌≤◌, ◌&&◌, [], ◌∷◌, length, ◌==◌, nat_le, refl};
 ghost use Rattle.bits.specs.Bits.{covers, equal};
 ghost use Rattle.model.specs.Maps.{held, put};
