@@ -4,7 +4,7 @@ ghost use Rattle.sorted.specs.Places.{Opened, Closed, PutIn, TakenOut};
 use crate::row::Row;
 
 // Moves the rows from `i` up to `used` one place up.
-fn open(rows: &mut [Row], i: usize, used: usize)
+pub fn open(rows: &mut [Row], i: usize, used: usize)
     requires place { i ≤ used }
     requires room { used < length rows.old }
     ensures { Opened i used rows.old rows.new }
@@ -15,7 +15,7 @@ fn open(rows: &mut [Row], i: usize, used: usize)
 }
 
 // Moves the rows past `i` up to `used` one place down.
-fn close(rows: &mut [Row], i: usize, used: usize)
+pub fn close(rows: &mut [Row], i: usize, used: usize)
     requires place { i < used }
     requires within { used ≤ length rows.old }
     ensures { Closed i used rows.old rows.new }

@@ -148,7 +148,7 @@ fn mac48_calls(rt: HostRuntime) -> Result<(), Fail> {
 
 // Lengths and bits that make a prefix, and those that do not.
 #[test]
-fn prefixes(rt: HostRuntime) {
+fn prefixes(rt: HostRuntime) -> Result<(), Fail> {
     let ten = Ipv4::new(0x0a00_0000);
     assert!(rt; ten.prefix(32).is_ok());
     assert_eq!(rt; ten.prefix(33), Err(PrefixRefusal::TooLong));
@@ -168,4 +168,5 @@ fn prefixes(rt: HostRuntime) {
     assert_eq!(rt; one.prefix(127), Err(PrefixRefusal::StrayBits));
     assert!(rt; Ipv6::new(1, 0).prefix(64).is_ok());
     assert_eq!(rt; Ipv6::new(1, 0).prefix(63), Err(PrefixRefusal::StrayBits));
+    Ok(())
 }
