@@ -50,6 +50,7 @@ pub fn locate(rows: &[Row], used: usize, prefix: Halves, len: u8) -> Place
 }
 
 // Where the prefix is in the map that the first `used` rows are.
+#[tactic(auto, using(crate::proofs::Entries::in_map))]
 pub fn place_of(rows: &[Row], used: usize, prefix: Halves, len: u8) -> Place
     requires rising { InOrder used rows.now }
     requires short { len ≤ 128 }
