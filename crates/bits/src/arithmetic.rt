@@ -1,8 +1,9 @@
 // Arithmetic on halves: each function is an equation over numbers. What it means for bit strings, `words` says.
 ghost use Rattle.std.specs.Prelude.{◌≡◌, ◌-◌, ◌<◌, ◌≤◌};
 ghost use Rattle.bits.specs.Halves.{stands};
-ghost use Rattle.bits.specs.Arithmetic.{bit_of, shared, top, cut, uncut, agree, by_length, settled};
+ghost use Rattle.bits.specs.Arithmetic.{bit_of, shared, top, cut, uncut, agree, settled};
 
+use super::front::Front;
 use super::halves::Halves;
 use std::cmp::Ordering;
 
@@ -43,72 +44,58 @@ fn kept(x: u64, n: u8) -> u64
     }
 }
 
-// The first `n` bits, with zeros after.
-pub fn cut_after(h: Halves, n: u8) -> Halves
-    requires { n ≤ 128 }
-    ensures { result ≡ cut n h }
+// The bits of the front, with zeros after.
+pub fn cut_after(f: Front) -> Halves
+    requires { f.len ≤ 128 }
+    ensures { result ≡ cut f.len f.bits }
 {
-    if n < 64 {
+    if f.len < 64 {
         Halves {
-            hi: kept(h.hi, n),
+            hi: kept(f.bits.hi, f.len),
             lo: 0,
         }
     } else {
         Halves {
-            hi: h.hi,
-            lo: kept(h.lo, n - 64),
+            hi: f.bits.hi,
+            lo: kept(f.bits.lo, f.len - 64),
         }
     }
 }
 
-// Whether nothing is cut off after the first `n` bits.
-pub fn uncut(h: Halves, n: u8) -> bool
-    requires { n ≤ 128 }
-    ensures { result ≡ uncut n h }
+// Whether nothing is cut off after the bits of the front.
+pub fn uncut(f: Front) -> bool
+    requires { f.len ≤ 128 }
+    ensures { result ≡ uncut f.len f.bits }
 {
-    let m = cut_after(h, n);
-    m.hi == h.hi && m.lo == h.lo
+    cut_after(f) == f.bits
 }
 
-// Whether the first `n` bits of `p` and `a` are the same.
-pub fn agree_on(p: Halves, n: u8, a: Halves) -> bool
-    requires { n ≤ 128 }
-    ensures { result ≡ agree n p a }
+// Whether the bits of the front are the first ones of `a` too.
+pub fn agree_on(f: Front, a: Halves) -> bool
+    requires { f.len ≤ 128 }
+    ensures { result ≡ agree f.len f.bits a }
 {
-    if n <= 64 {
-        n == 0 || (p.hi ^ a.hi) >> (64 - n) == 0
+    if f.len <= 64 {
+        f.len == 0 || (f.bits.hi ^ a.hi) >> (64 - f.len) == 0
     } else {
-        p.hi == a.hi && (p.lo ^ a.lo) >> (128 - n) == 0
+        f.bits.hi == a.hi && (f.bits.lo ^ a.lo) >> (128 - f.len) == 0
     }
 }
 
-// How prefixes of `n` and `m` bits of one address stand.
-fn by_length(n: u8, m: u8) -> Ordering
-    ensures { stands result ≡ by_length n m }
+// How the two fronts stand: by the bit of `a` in which they differ first, else by length.
+pub fn settle(a: Front, b: Front) -> Ordering
+    requires left { a.len ≤ 128 }
+    requires right { b.len ≤ 128 }
+    ensures { stands result ≡ settled (shared a.bits b.bits) (bit_of a.bits (shared a.bits b.bits)) a.len b.len }
 {
-    if n < m {
-        Ordering::Less
-    } else if n == m {
-        Ordering::Equal
-    } else {
-        Ordering::Greater
-    }
-}
-
-// How the first `n` bits of `a` stand to the first `m` of `b`: by the bit of `a` in which they differ first, else by length.
-pub fn settle(a: Halves, n: u8, b: Halves, m: u8) -> Ordering
-    requires left { n ≤ 128 }
-    requires right { m ≤ 128 }
-    ensures { stands result ≡ settled (shared a b) (bit_of a (shared a b)) n m }
-{
-    let both = shared_bits(a, b);
-    if both < n && both < m {
-        if bit(a, both) {
+    let both = shared_bits(a.bits, b.bits);
+    if both < a.len && both < b.len {
+        if bit(a.bits, both) {
             Ordering::Greater
         } else {
             Ordering::Less
         }
     } else {
-        by_length(n, m)
+        a.len.cmp(&b.len)
     }
 }

@@ -1,6 +1,6 @@
 #![tactic(auto)]
 
 mod arithmetic;
+pub mod front;
 pub mod halves;
 pub mod laws;
-pub mod words;
