@@ -3,8 +3,7 @@ ghost use Rattle.bits.specs.Halves.{front, Aligned};
 ghost use Rattle.address.specs.Prefixes.{number, checked, outcome, Tested};
 
 use super::refusal::PrefixRefusal;
-use bits::halves::Halves;
-use bits::words::aligned;
+use bits::front::Front;
 
 impl PrefixRefusal {
     // The number by which the refusal is reported.
@@ -18,25 +17,25 @@ impl PrefixRefusal {
     }
 }
 
-// Whether `len` is at most `width`, and nothing is set beyond the first `len` bits of `h`.
-fn test_prefix(h: Halves, width: u8, len: u8) -> Result<(), PrefixRefusal>
+// Whether the front has at most `width` bits, and nothing is set beyond them.
+fn test_prefix(f: Front, width: u8) -> Result<(), PrefixRefusal>
     requires { width ≤ 128 }
-    ensures { Tested width len h result }
+    ensures { Tested width f.len f.bits result }
 {
-    if len > width {
+    if f.len > width {
         return Err(PrefixRefusal::TooLong);
     }
-    if !aligned(h, len) {
+    if !f.is_aligned() {
         return Err(PrefixRefusal::StrayBits);
     }
     Ok(())
 }
 
-// Whether the first `len` of the `width` bits of `h` are a prefix of such an address.
-pub fn check_prefix(h: Halves, width: u8, len: u8) -> Result<(), PrefixRefusal>
+// Whether the bits of the front are a prefix of such an address as its halves hold, of `width` bits.
+pub fn check_prefix(f: Front, width: u8) -> Result<(), PrefixRefusal>
     requires narrow { width ≤ 128 }
-    requires clear { Aligned width h }
-    ensures { outcome (λ _. take len (front width h)) result ≡ checked (front width h) len }
+    requires clear { Aligned width f.bits }
+    ensures { outcome (λ _. take f.len (front width f.bits)) result ≡ checked (front width f.bits) f.len }
 {
-    test_prefix(h, width, len)
+    test_prefix(f, width)
 }

@@ -5,6 +5,7 @@ ghost use Rattle.bits.specs.declared.halves.Halves.{Halves};
 ghost use Rattle.address.specs.Prefixes.{checked, outcome};
 
 use super::refusal::PrefixRefusal;
+use bits::front::Front;
 use bits::halves::Halves;
 
 // A kind of address: strings of `width` bits, the highest first, with prefixes of its own.
@@ -44,12 +45,16 @@ pub trait Address: Copy {
         requires { Aligned width h }
         ensures { result ≡ joined h };
 
-    // The address of `p` in halves, zeros beyond its length.
-    fn first(p: Self::Prefix) -> Halves
-        ensures { result ≡ halves (start p) };
+    // The bits of `p`, in the halves of the address at which it starts.
+    fn front(p: Self::Prefix) -> Front
+        ensures bits { result.bits ≡ halves (start p) }
+        ensures len { result.len ≡ length (pbits p) };
 
     fn len(p: Self::Prefix) -> u8
-        ensures { result ≡ length (pbits p) };
+        ensures { result ≡ length (pbits p) }
+    {
+        Self::front(p).len
+    }
 
     // The prefix of the first `len` bits, if there are so many and nothing is set beyond them.
     fn prefix(self, len: u8) -> Result<Self::Prefix, PrefixRefusal>

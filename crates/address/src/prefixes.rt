@@ -3,16 +3,13 @@ ghost use Rattle.bits.specs.Bits.{covers, order};
 ghost use Rattle.bits.specs.Halves.{stands, front, word};
 
 use super::kind::Address;
-use bits::words;
 use std::cmp::Ordering;
 
 // Whether the prefix's halves cover those of the address.
 fn covers_halves<A: Address>(p: A::Prefix, a: A) -> bool
     ensures { result ≡ covers (front (length (A.Address.pbits p)) (A.Address.halves (A.Address.start p))) (word (A.Address.halves a)) }
 {
-    let first = A::first(p);
-    let halves = a.to_halves();
-    words::covers(first, A::len(p), halves)
+    A::front(p).covers(a.to_halves())
 }
 
 // Whether the prefix covers the address.
@@ -26,7 +23,7 @@ pub fn covers_address<A: Address>(p: A::Prefix, a: A) -> bool
 fn order_halves<A: Address>(p: A::Prefix, q: A::Prefix) -> Ordering
     ensures { stands result ≡ order (front (length (A.Address.pbits p)) (A.Address.halves (A.Address.start p))) (front (length (A.Address.pbits q)) (A.Address.halves (A.Address.start q))) }
 {
-    words::order(A::first(p), A::len(p), A::first(q), A::len(q))
+    A::front(p).order(A::front(q))
 }
 
 // How the two prefixes stand in the order by address and then by length.

@@ -11,6 +11,7 @@ use super::{Ipv4, Prefix4};
 use crate::checks::check_prefix;
 use crate::kind::Address;
 use crate::refusal::PrefixRefusal;
+use bits::front::Front;
 use bits::halves::Halves;
 
 // The higher 32 bits of `x`.
@@ -84,16 +85,16 @@ impl Address for Ipv4 {
         Ipv4::new(top_half(h.hi))
     }
 
-    fn first(p: Prefix4) -> Halves {
-        p.address.to_halves()
-    }
-
-    fn len(p: Prefix4) -> u8 {
-        p.len()
+    fn front(p: Prefix4) -> Front {
+        Front {
+            bits: p.address.to_halves(),
+            len: p.len(),
+        }
     }
 
     fn prefix(self, len: u8) -> Result<Prefix4, PrefixRefusal> {
-        check_prefix(self.to_halves(), Self::WIDTH, len)?;
+        let bits = self.to_halves();
+        check_prefix(Front { bits, len }, Self::WIDTH)?;
         Ok(Prefix4::of(self, len))
     }
 }

@@ -12,6 +12,7 @@ use super::{Ipv6, Prefix6};
 use crate::checks::check_prefix;
 use crate::kind::Address;
 use crate::refusal::PrefixRefusal;
+use bits::front::Front;
 use bits::halves::Halves;
 
 // The address of the two halves.
@@ -86,16 +87,16 @@ impl Address for Ipv6 {
         of_halves(h)
     }
 
-    fn first(p: Prefix6) -> Halves {
-        p.address.to_halves()
-    }
-
-    fn len(p: Prefix6) -> u8 {
-        p.len()
+    fn front(p: Prefix6) -> Front {
+        Front {
+            bits: p.address.to_halves(),
+            len: p.len(),
+        }
     }
 
     fn prefix(self, len: u8) -> Result<Prefix6, PrefixRefusal> {
-        check_prefix(self.to_halves(), Self::WIDTH, len)?;
+        let bits = self.to_halves();
+        check_prefix(Front { bits, len }, Self::WIDTH)?;
         Ok(Prefix6::of(self, len))
     }
 }

@@ -11,6 +11,7 @@ use super::{ADDRESSES, Mac48, Prefix48};
 use address::checks::check_prefix;
 use address::kind::Address;
 use address::refusal::PrefixRefusal;
+use bits::front::Front;
 use bits::halves::Halves;
 
 impl Address for Mac48 {
@@ -77,19 +78,19 @@ impl Address for Mac48 {
         Mac48 { bits: h.hi >> 16 }
     }
 
-    fn first(p: Prefix48) -> Halves {
-        p.address.to_halves()
-    }
-
-    fn len(p: Prefix48) -> u8 {
-        p.len
+    fn front(p: Prefix48) -> Front {
+        Front {
+            bits: p.address.to_halves(),
+            len: p.len,
+        }
     }
 
     fn prefix(self, len: u8) -> Result<Prefix48, PrefixRefusal> {
         let address = Mac48 {
             bits: self.bits % ADDRESSES,
         };
-        check_prefix(address.to_halves(), Self::WIDTH, len)?;
+        let bits = address.to_halves();
+        check_prefix(Front { bits, len }, Self::WIDTH)?;
         Ok(Prefix48 { address, len })
     }
 }

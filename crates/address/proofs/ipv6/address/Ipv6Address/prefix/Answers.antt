@@ -13,16 +13,16 @@ reads : (h : Halves) (a : Ipv6) → h ≡ halves6 a → front 128 h ≡ paired a
 reads h a e = ap (front 128) e ∙ paired_front (halves6 a) ∙ paired_rest a.hi a.lo
 
 pub check_prefix-requires : goal.check_prefix-requires
-check_prefix-requires c = record { narrow = lit≤ tt; clear = aligned_whole c.to_halves.result }
+check_prefix-requires c = record { narrow = lit≤ tt; clear = aligned_whole c.to_halves-bits.result }
 
 pub returns-in_err-check_prefix : goal.returns-in_err-check_prefix
 returns-in_err-check_prefix c =
     let p = err_from_is_err_and c.from_residual.result c.from_residual.ensures.1 in
-    rw (p.1, p.2) (checked_err_at _ _ _ _ (reads _ c.args.self c.to_halves.ensures) c.in_err-check_prefix.ensures)
+    rw (p.1, p.2) (checked_err_at _ _ _ _ (reads _ c.args.self c.to_halves-bits.ensures) c.in_err-check_prefix.ensures)
 
 pub of-requires : goal.of-requires
 of-requires c =
-    let ok = checked_ok_at _ _ _ (reads _ c.args.self c.to_halves.ensures) c.in_ok-check_prefix.ensures in
+    let ok = checked_ok_at _ _ _ (reads _ c.args.self c.to_halves-bits.ensures) c.in_ok-check_prefix.ensures in
     let f = checked_ok (paired c.args.self.hi c.args.self.lo) c.args.len _ ok in
     record { within = rw (paired_length c.args.self.hi c.args.self.lo) at f.0; zeros = f.1 }
 
@@ -30,4 +30,4 @@ pub returns : goal.returns
 returns c =
     let r = c.of.result in
     ap (λ (a : Ipv6). Ok (take r.len (paired a.hi a.lo))) c.of.ensures.0 ∙ ap (λ n. Ok (take n (paired c.args.self.hi c.args.self.lo))) c.of.ensures.1
-    ∙ checked_ok_at _ _ _ (reads _ c.args.self c.to_halves.ensures) c.in_ok-check_prefix.ensures
+    ∙ checked_ok_at _ _ _ (reads _ c.args.self c.to_halves-bits.ensures) c.in_ok-check_prefix.ensures
