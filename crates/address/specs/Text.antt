@@ -24,3 +24,7 @@ colons hi lo = groups hi ++ (codes ":" ++ groups lo)
 -- the address, a slash and the length
 abbrev pub slashed : List ℕ → ℕ → List ℕ
 slashed address len = address ++ (codes "/" ++ decimal len)
+
+-- a refusal, by its number
+abbrev pub refused : ℕ → List ℕ
+refused n = codes "refused " ++ decimal n

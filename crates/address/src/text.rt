@@ -3,19 +3,6 @@ ghost use Rattle.address.specs.Text.{digit16, group, groups};
 
 use std::fmt;
 
-// The hexadecimal digit of `d`.
-fn hex_digit(d: u16) -> char
-    requires { d < 16 }
-    ensures { (result ≡ digit16 d) × (result < 128) }
-{
-    let d = d as u8;
-    if d < 10 {
-        (48 + d) as char
-    } else {
-        (87 + d) as char
-    }
-}
-
 // Sixteen bits as four hexadecimal digits.
 #[derive(Clone, Copy)]
 pub struct Group(pub u16);
@@ -24,11 +11,9 @@ impl fmt::Display for Group {
     ghost output = { λ x. Some (group x.0) };
 
     fn fmt<W: fmt::Write>(&self, f: &mut fmt::Formatter<W>) -> fmt::Result {
-        let a = hex_digit(self.0 / 4096 % 16);
-        let b = hex_digit(self.0 / 256 % 16);
-        let c = hex_digit(self.0 / 16 % 16);
-        let d = hex_digit(self.0 % 16);
-        write!(f, "{a}{b}{c}{d}")
+        let high = self.0 / 256;
+        let low = self.0 % 256;
+        write!(f, "{high:02x}{low:02x}")
     }
 }
 

@@ -16,10 +16,12 @@ use bits::front::Front;
 use bits::halves::Halves;
 
 // The address of the two halves.
-fn of_halves(h: Halves) -> Ipv6
-    ensures { (result.hi ≡ h.hi) × (result.lo ≡ h.lo) }
-{
-    Ipv6::new(h.hi, h.lo)
+impl From<Halves> for Ipv6 {
+    ghost from_gives = { λ h a. (a.hi ≡ h.hi) × (a.lo ≡ h.lo) };
+
+    fn from(h: Halves) -> Ipv6 {
+        Ipv6::new(h.hi, h.lo)
+    }
 }
 
 impl Address for Ipv6 {
@@ -84,7 +86,7 @@ impl Address for Ipv6 {
     }
 
     fn from_halves(h: Halves) -> Ipv6 {
-        of_halves(h)
+        Ipv6::from(h)
     }
 
     fn front(p: Prefix6) -> Front {
