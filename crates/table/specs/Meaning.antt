@@ -1,5 +1,6 @@
 -- What the calls and replies of the code stand for: calls and replies of the reference machine, case by case.
-use Rattle.std.specs.Prelude.{ℕ, List, [], ◌∷◌, ◌++◌, map, Some, None, Ok, Err, Option, Result}
+use Rattle.std.specs.Prelude.{ℕ, List, map, Some, None, Ok, Err, Option, Result}
+use Rattle.std.specs.List.{filter_map}
 use Rattle.bits.specs.Bits.{Bits}
 use Rattle.model.specs.Machine as machine
 use Rattle.model.specs.Machine.{Hop, Answer, on, announce, withdraw, fetch, lookup, done, holds, found, refused}
@@ -8,8 +9,8 @@ use Rattle.table.specs.declared.calls.Refusal.{Refusal}
 use Rattle.table.specs.declared.calls.Refusal.TheVariants.{NoPlane, BoundTooLong, NotHeld, NoRoom}
 use Rattle.table.specs.declared.calls.Call.{Call}
 use Rattle.table.specs.declared.calls.Call.TheVariants.{Announce, Withdraw, Fetch, Lookup}
-use Rattle.table.specs.declared.calls.Reply.{Reply}
-use Rattle.table.specs.declared.calls.Reply.TheVariants.{Done, Holds, Found, Refused}
+use Rattle.table.specs.declared.calls.Granted.{Granted}
+use Rattle.table.specs.declared.calls.Granted.TheVariants.{Done, Holds, Found}
 
 -- the number of a refusal
 abbrev pub number : Refusal → ℕ
@@ -35,12 +36,16 @@ abbrev pub as_answer : {A : Type 0} → (A → Bits) → Option (ℕ × A) → A
 as_answer bits None = None
 as_answer bits (Some x) = Some (x.0, bits x.1)
 
+-- a reply to a call
+abbrev pub Reply : Type 0 → Type 0
+Reply A = Result (Granted A) Refusal
+
 -- a reply
 abbrev pub as_reply : {A : Type 0} → (A → Bits) → Reply A → machine.Reply
-as_reply bits Done = done
-as_reply bits (Holds o) = holds (as_hop bits o)
-as_reply bits (Found x) = found (as_answer bits x)
-as_reply bits (Refused e) = refused (number e)
+as_reply bits (Ok Done) = done
+as_reply bits (Ok (Holds o)) = holds (as_hop bits o)
+as_reply bits (Ok (Found x)) = found (as_answer bits x)
+as_reply bits (Err e) = refused (number e)
 
 -- what the methods of a table return, as a reply
 abbrev pub of_update : {U : Type 0} → Result U Refusal → machine.Reply
@@ -59,12 +64,6 @@ of_lookup bits (Err e) = refused (number e)
 abbrev pub calls_in : {A P : Type 0} → List (Exchange A P) → List (Call A P)
 calls_in xs = map (λ x. x.call) xs
 
--- a place's reply, if one is written there
-abbrev pub written : {A : Type 0} → Option (Reply A) → List (Reply A)
-written None = []
-written (Some y) = y ∷ []
-
 -- the replies that are written in a list of exchanges
 abbrev pub replies_in : {A P : Type 0} → List (Exchange A P) → List (Reply A)
-replies_in [] = []
-replies_in (x ∷ xs) = written x.reply ++ replies_in xs
+replies_in xs = filter_map (λ x. x.reply) xs

@@ -37,14 +37,16 @@ pub enum Call<A, P> {
     Lookup { address: A, bound: u8 },
 }
 
-// The reply to a call.
+// What an accepted call gives.
 #[derive(Clone, Copy, PartialEq, Eq, Debug)]
-pub enum Reply<A> {
+pub enum Granted<A> {
     Done,
     Holds(Option<A>),
     Found(Option<(u8, A)>),
-    Refused(Refusal),
 }
+
+// The reply to a call.
+pub type Reply<A> = Result<Granted<A>, Refusal>;
 
 // A call with a place for its reply.
 #[derive(Clone, Copy)]

@@ -1,10 +1,10 @@
-ghost use Rattle.std.specs.Prelude.{◌≡◌, ◌<◌, false, map, length, Some, slice_set};
+ghost use Rattle.std.specs.Prelude.{◌≡◌, false, map, Some};
 ghost use Rattle.model.specs.Laws.{Does};
 ghost use Rattle.model.specs.Logs.{granted};
 ghost use Rattle.model.specs.Promise.{RunsAsReference};
 ghost use Rattle.table.specs.Meaning.{as_call, as_reply, calls_in, replies_in};
 
-use crate::calls::{Call, Exchange, Reply};
+use crate::calls::{Call, Exchange, Granted, Reply};
 use crate::interface::Table;
 use address::kind::Address;
 
@@ -19,31 +19,17 @@ pub fn perform<T: Table>(
     ensures refused { granted (as_reply T.Addr.Address.bits result) ≡ false → table.new ≡ table.old }
 {
     match call {
-        Call::Announce { plane, prefix, hop } => match table.announce(plane, prefix, hop) {
-            Ok(_) => Reply::Done,
-            Err(refusal) => Reply::Refused(refusal),
-        },
-        Call::Withdraw { plane, prefix } => match table.withdraw(plane, prefix) {
-            Ok(_) => Reply::Done,
-            Err(refusal) => Reply::Refused(refusal),
-        },
-        Call::Fetch { plane, prefix } => match table.fetch(plane, prefix) {
-            Ok(hop) => Reply::Holds(hop),
-            Err(refusal) => Reply::Refused(refusal),
-        },
-        Call::Lookup { address, bound } => match table.lookup(address, bound) {
-            Ok(answer) => Reply::Found(answer),
-            Err(refusal) => Reply::Refused(refusal),
-        },
+        Call::Announce { plane, prefix, hop } => {
+            table.announce(plane, prefix, hop)?;
+            Ok(Granted::Done)
+        }
+        Call::Withdraw { plane, prefix } => {
+            table.withdraw(plane, prefix)?;
+            Ok(Granted::Done)
+        }
+        Call::Fetch { plane, prefix } => Ok(Granted::Holds(table.fetch(plane, prefix)?)),
+        Call::Lookup { address, bound } => Ok(Granted::Found(table.lookup(address, bound)?)),
     }
-}
-
-// Writes one element; over any element type, so that its size stays a name.
-fn store<X: Copy>(items: &mut [X], i: usize, item: X)
-    requires { i < length items.old }
-    ensures { items.new ≡ slice_set items.old i item }
-{
-    items[i] = item;
 }
 
 // Makes the calls in turn and writes down the reply to each: the table ends as the reference machine has it for the whole list.
@@ -57,16 +43,7 @@ pub fn run<T: Table>(
     ensures replied { map (λ x. x.reply) exchanges.new ≡ map Some (replies_in exchanges.new) }
     ensures promise { RunsAsReference T.Table.planes T.Table.view T.Table.room T.Table.stack table.old table.new (map (as_call T.Addr.Address.bits T.Addr.Address.pbits) (calls_in exchanges.old)) (map (as_reply T.Addr.Address.bits) (replies_in exchanges.new)) }
 {
-    for i in 0..exchanges.len() {
-        let call = exchanges[i].call;
-        let reply = perform(table, call);
-        store(
-            exchanges,
-            i,
-            Exchange {
-                call,
-                reply: Some(reply),
-            },
-        );
+    for exchange in exchanges.iter_mut() {
+        exchange.reply = Some(perform(table, exchange.call));
     }
 }
