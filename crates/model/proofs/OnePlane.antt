@@ -9,6 +9,7 @@ use Rattle.model.specs.Machine.{Hop, Stored, Plane, Room, Act, announce, withdra
 use Rattle.model.specs.Stack.{table, Described}
 use Rattle.model.specs.Laws.{Sound, Does}
 use Rattle.model.specs.Tables.{plain, usable, rows_room}
+use Rattle.model.specs.Single.{Single}
 
 pub one_described : (m : Plane) (r : Room) → Described (table (m ∷ []) plain r) (m ∷ []) plain r
 one_described m r = record { planes = refl; view = refl; room = refl }
@@ -27,11 +28,6 @@ one_sound r m g f = record { some = omega arith; few = omega arith; rising = ris
 -- the plane that the first n of some rows hold
 pub rows_sound : {X : Type 0} (f : X → Route Stored) (c n : ℕ) (rows : List X) → n ≤ usable c → Rising (map f (take n rows)) → Sound (rows_room c) (map f (take n rows) ∷ [])
 rows_sound f c n rows l g = one_sound (rows_room c) (map f (take n rows)) g (le-leb _ _ (omega (arith, length-map (take n rows) f, length-take n rows)))
-
--- a call takes the plane m to n with reply y
-pub record Single (r : Room) (m n : Plane) (c : Call) (y : Reply) : Type 0 where
-  pub reply : y ≡ reply_of plain r (m ∷ []) c
-  pub planes : n ∷ [] ≡ next r (m ∷ []) c
 
 pub single_does : {X : Type 0} (plane_of : X → Plane) (room : X → Room) (s t : X) (c : Call) (y : Reply) → room t ≡ room s → Single (room s) (plane_of s) (plane_of t) c y
     → Does (λ x. plane_of x ∷ []) (λ x. plain) room (λ x. table (plane_of x ∷ []) plain (room x)) s t c y

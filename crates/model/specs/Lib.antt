@@ -10,3 +10,4 @@ pub mod Logs
 pub mod Laws
 pub mod Promise
 pub mod Tables
+pub mod Single

@@ -4,3 +4,4 @@
 pub mod calls;
 pub mod interface;
 pub mod run;
+pub mod single;
