@@ -1,40 +1,49 @@
--- A call on a plane of a fall-through, by the table that has the plane. Assumes nothing.
-use Rattle.std.proofs.Common.{◌≡◌, ℕ, ◌-◌, ◌<◌, ◌≤◌, List, ◌++◌, length, ap, subst, arith}
-use Rattle.std.proofs.lemmas.List.{length-append}
+-- A call on a fall-through, by the calls on its two tables. Assumes nothing.
+use Rattle.std.proofs.Common.{◌≡◌, ℕ, ◌-◌, ◌<◌, ◌≤◌, false, ◌++◌, length, is_ok, Some, None, Ok, Err, Option, Result, sym}
+use Rattle.std.proofs.lemmas.Bool.{false≢true}
+use Rattle.bits.specs.Bits.{Bits}
 use Rattle.model.specs.Laws.{Does}
-use Rattle.model.specs.Machine.{Plane, View, Room, Act, Reply, on}
-use Rattle.model.specs.Stack.{Stack}
-use Rattle.model.proofs.Steps.{at, Step, DescribedAt, step_of, step_count}
-use Rattle.model.proofs.FallLaws.{joined, fall_upper, fall_lower}
-use Rattle.fall_through.specs.declared.place.Place.{Place}
-use Rattle.fall_through.specs.declared.place.Place.TheVariants.{Upper, Lower}
-use Rattle.fall_through.specs.Places.{Placed, Passed}
+use Rattle.model.specs.Machine.{Target, Act, Call, Reply, on, lookup, found}
+use Rattle.model.specs.Stack.{fall, fall_view, fall_room}
+use Rattle.model.proofs.Steps.{at, step_of, does_of}
+use Rattle.model.proofs.FallLaws.{fall_upper, fall_lower, fall_too_long, fall_first, fall_second}
+use Rattle.model.proofs.Lookups.{refused_long, found_short}
+use Rattle.table.specs.declared.calls.Refusal.{Refusal}
+use Rattle.table.specs.declared.interface.Table.{Ghosts}
+use Rattle.table.specs.Meaning.{of_lookup}
+use Rattle.fall_through.specs.declared.layer.FallThrough.{FallThrough}
 
-module _ {U L : Type 0} (pu : U → List Plane) (vu : U → View) (ru : U → Room) (su : U → Stack) (pl : L → List Plane) (vl : L → View) (rl : L → Room) (sl : L → Stack) (s t : U) (a b : L) (i k : ℕ) (act : Act) (y : Reply) where
-  abbrev Passes : Place → Type 0
-  Passes p = Passed p (λ j. Does pu vu ru su s t (on j act) y) (b ≡ a) (λ j. Does pl vl rl sl a b (on j act) y) (t ≡ s)
+module _ {U L A P : Type 0} (u : Ghosts U A P) (l : Ghosts L A P) where
+  -- what a call does to the two tables as one
+  abbrev pub Falls : FallThrough U L A P → FallThrough U L A P → Call → Reply → Type 0
+  Falls s t c y = Does {X = FallThrough U L A P} (λ x. u.planes x.upper ++ l.planes x.lower) (λ x. fall_view (length (u.planes x.upper)) (u.view x.upper) (l.view x.lower)) (λ x. fall_room (length (u.planes x.upper)) (u.room x.upper) (l.room x.lower)) (λ x. fall (u.stack x.upper) (l.stack x.lower)) s t c y
 
-  -- the fall-through has made the call
-  pub passed_on : (p : Place) → DescribedAt (at pu vu ru su s) → k ≡ length (pu s) → Placed k i p → Passes p → Step (joined (at pu vu ru su s) (at pl vl rl sl a)) (joined (at pu vu ru su t) (at pl vl rl sl b)) (on i act) y
-  passed_on (Upper j) d e h f =
-      let x = at pu vu ru su s in
-      let z = at pl vl rl sl a in
-      let n : i < length (pu s) = omega arith in
-      rw f.1 (fall_upper x z d (at pu vu ru su t) i act n (subst (λ m. Step x (at pu vu ru su t) (on m act) y) h.0 (step_of f.0)))
-  passed_on (Lower j) d e h f =
-      let x = at pu vu ru su s in
-      let z = at pl vl rl sl a in
-      let n : length (pu s) ≤ i = omega arith in
-      let m : j ≡ i - length (pu s) = omega arith in
-      rw f.1 (fall_lower x z d (at pl vl rl sl b) i act n (subst (λ m. Step z (at pl vl rl sl b) (on m act) y) m (step_of f.0)))
+  -- the upper table has made the call
+  pub by_upper : (s : FallThrough U L A P) (t : U) (i : ℕ) (act : Act) (y : Reply) → i < length (u.planes s.upper) → Does u.planes u.view u.room u.stack s.upper t (on i act) y → Falls s (record { upper = t; lower = s.lower }) (on i act) y
+  by_upper s t i act y n f = does_of (fall_upper (at u.planes u.view u.room u.stack s.upper) (at l.planes l.view l.room l.stack s.lower) (u.described s.upper) (at u.planes u.view u.room u.stack t) i act n (step_of f))
 
-  -- and has as many planes as before
-  pub same_count : (p : Place) → Passes p → length (pu t ++ pl b) ≡ length (pu s ++ pl a)
-  same_count (Upper j) f =
-      let n = step_count (at pu vu ru su s) (at pu vu ru su t) (step_of f.0) in
-      let m = ap (λ q. length (pl q)) f.1 in
-      simp length-append (omega (arith, n, m))
-  same_count (Lower j) f =
-      let n = step_count (at pl vl rl sl a) (at pl vl rl sl b) (step_of f.0) in
-      let m = ap (λ q. length (pu q)) f.1 in
-      simp length-append (omega (arith, n, m))
+  -- the lower table has made the call
+  pub by_lower : (s : FallThrough U L A P) (t : L) (i : ℕ) (act : Act) (y : Reply) → length (u.planes s.upper) ≤ i → Does l.planes l.view l.room l.stack s.lower t (on (i - length (u.planes s.upper)) act) y → Falls s (record { upper = s.upper; lower = t }) (on i act) y
+  by_lower s t i act y n f = does_of (fall_lower (at u.planes u.view u.room u.stack s.upper) (at l.planes l.view l.room l.stack s.lower) (u.described s.upper) (at l.planes l.view l.room l.stack t) i act n (step_of f))
+
+  -- the upper table has refused the lookup
+  pub none_asked : (s : FallThrough U L A P) (t : U) (a : Bits) (b : ℕ) (bits : A → Bits) (r : Result (Option (ℕ × A)) Refusal) → is_ok r ≡ false → Does u.planes u.view u.room u.stack s.upper t (lookup a b) (of_lookup bits r) → Falls s (record { upper = t; lower = s.lower }) (lookup a b) (of_lookup bits r)
+  none_asked s t a b bits (Ok x) e f = absurd (false≢true (sym e))
+  none_asked s t a b bits (Err n) e f =
+      let from = at u.planes u.view u.room u.stack s.upper in
+      let to = at u.planes u.view u.room u.stack t in
+      does_of (fall_too_long from (at l.planes l.view l.room l.stack s.lower) (u.described s.upper) to a b (refused_long from to a b _ (step_of f)) (step_of f))
+
+  -- the upper table has the answer
+  pub first_asked : (s : FallThrough U L A P) (t : U) (a : Bits) (b : ℕ) (z : ℕ × Target) → Does u.planes u.view u.room u.stack s.upper t (lookup a b) (found (Some z)) → Falls s (record { upper = t; lower = s.lower }) (lookup a b) (found (Some z))
+  first_asked s t a b z f =
+      let from = at u.planes u.view u.room u.stack s.upper in
+      let to = at u.planes u.view u.room u.stack t in
+      does_of (fall_first from (at l.planes l.view l.room l.stack s.lower) (u.described s.upper) to a b z (found_short from to a b (Some z) (step_of f)) (step_of f))
+
+  -- the upper table has none, and the lower is asked
+  pub second_asked : (s : FallThrough U L A P) (t : U) (w : L) (a : Bits) (b : ℕ) (y : Reply) → Does u.planes u.view u.room u.stack s.upper t (lookup a b) (found None) → Does l.planes l.view l.room l.stack s.lower w (lookup a b) y → Falls s (record { upper = t; lower = w }) (lookup a b) y
+  second_asked s t w a b y f g =
+      let from = at u.planes u.view u.room u.stack s.upper in
+      let to = at u.planes u.view u.room u.stack t in
+      does_of (fall_second from (at l.planes l.view l.room l.stack s.lower) (u.described s.upper) to (at l.planes l.view l.room l.stack w) a b (found_short from to a b None (step_of f)) (step_of f) (step_of g))

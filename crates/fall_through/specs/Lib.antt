@@ -1,4 +1,1 @@
-pub mod Places
-pub mod Lookups
 pub mod Refusals
-pub mod Makers

@@ -1,14 +1,8 @@
-ghost use Rattle.std.specs.Prelude.{◌≡◌, ◌≤◌, false, ◌++◌, length, is_ok, MatchResult, nat_le};
-ghost use Rattle.model.specs.Laws.{Does};
-ghost use Rattle.model.specs.Machine.{on, announce, withdraw, fetch, lookup};
+ghost use Rattle.std.specs.Prelude.{◌≡◌, ◌-◌, ◌≤◌, ◌++◌, length, is_ok, IfOk, MatchResult, SomeIff, nat_le};
 ghost use Rattle.model.specs.Stack.{fall, fall_view, fall_room};
 ghost use Rattle.model.proofs.FallLaws.{fall_described, fall_local, fall_roomy, fall_sound};
-ghost use Rattle.table.specs.Meaning.{of_update, of_fetch, of_lookup};
-ghost use Rattle.fall_through.specs.Lookups.{Fallen};
-ghost use Rattle.fall_through.specs.Makers.{Made};
-ghost use Rattle.fall_through.specs.Places.{Passed};
 
-use crate::place::{Place, few_enough, locate, stands, together};
+use crate::planes::{few_enough, together};
 use crate::refusal::TooManyPlanes;
 use address::kind::Address;
 use table::calls::Refusal;
@@ -54,8 +48,10 @@ impl<U: Table, L: Table<Addr = U::Addr>> Table for FallThrough<U, L> {
         prefix: <U::Addr as Address>::Prefix,
         hop: U::Addr,
     ) -> Result<(), Refusal> {
-        let place = locate(plane, self.upper.plane_count());
-        self.announce_in(place, prefix, hop)
+        match self.lower_plane(plane) {
+            None => self.upper.announce(plane, prefix, hop),
+            Some(i) => self.lower.announce(i, prefix, hop),
+        }
     }
 
     fn withdraw(
@@ -63,8 +59,10 @@ impl<U: Table, L: Table<Addr = U::Addr>> Table for FallThrough<U, L> {
         plane: u16,
         prefix: <U::Addr as Address>::Prefix,
     ) -> Result<(), Refusal> {
-        let place = locate(plane, self.upper.plane_count());
-        self.withdraw_in(place, prefix)
+        match self.lower_plane(plane) {
+            None => self.upper.withdraw(plane, prefix),
+            Some(i) => self.lower.withdraw(i, prefix),
+        }
     }
 
     fn fetch(
@@ -72,12 +70,18 @@ impl<U: Table, L: Table<Addr = U::Addr>> Table for FallThrough<U, L> {
         plane: u16,
         prefix: <U::Addr as Address>::Prefix,
     ) -> Result<Option<U::Addr>, Refusal> {
-        let place = locate(plane, self.upper.plane_count());
-        self.fetch_in(place, prefix)
+        match self.lower_plane(plane) {
+            None => self.upper.fetch(plane, prefix),
+            Some(i) => self.lower.fetch(i, prefix),
+        }
     }
 
+    // Asks the upper table, and the lower where the upper has none.
     fn lookup(&mut self, address: U::Addr, bound: u8) -> Result<Option<(u8, U::Addr)>, Refusal> {
-        self.lookup_through(address, bound)
+        match self.upper.lookup(address, bound)? {
+            Some(found) => Ok(Some(found)),
+            None => self.lower.lookup(address, bound),
+        }
     }
 }
 
@@ -89,11 +93,11 @@ impl<U: Table, L: Table<Addr = U::Addr>> FallThrough<U, L> {
         requires lower { L.Table.valid lower }
         ensures when { is_ok result ≡ nat_le (length (U.Table.planes upper ++ L.Table.planes lower)) 8 }
         ensures parts { MatchResult result (λ f. (f.upper ≡ upper) × (f.lower ≡ lower)) (λ e. (e.upper ≡ upper) × (e.lower ≡ lower)) }
-        ensures planes { Made result (λ f. U.Table.planes f.upper ++ L.Table.planes f.lower ≡ U.Table.planes upper ++ L.Table.planes lower) }
-        ensures view { Made result (λ f. fall_view (length (U.Table.planes f.upper)) (U.Table.view f.upper) (L.Table.view f.lower) ≡ fall_view (length (U.Table.planes upper)) (U.Table.view upper) (L.Table.view lower)) }
-        ensures room { Made result (λ f. fall_room (length (U.Table.planes f.upper)) (U.Table.room f.upper) (L.Table.room f.lower) ≡ fall_room (length (U.Table.planes upper)) (U.Table.room upper) (L.Table.room lower)) }
-        ensures stack { Made result (λ f. fall (U.Table.stack f.upper) (L.Table.stack f.lower) ≡ fall (U.Table.stack upper) (L.Table.stack lower)) }
-        ensures valid { Made result (λ f. U.Table.valid f.upper × L.Table.valid f.lower × (length (U.Table.planes f.upper ++ L.Table.planes f.lower) ≤ 8)) }
+        ensures planes { IfOk result (λ f. U.Table.planes f.upper ++ L.Table.planes f.lower ≡ U.Table.planes upper ++ L.Table.planes lower) }
+        ensures view { IfOk result (λ f. fall_view (length (U.Table.planes f.upper)) (U.Table.view f.upper) (L.Table.view f.lower) ≡ fall_view (length (U.Table.planes upper)) (U.Table.view upper) (L.Table.view lower)) }
+        ensures room { IfOk result (λ f. fall_room (length (U.Table.planes f.upper)) (U.Table.room f.upper) (L.Table.room f.lower) ≡ fall_room (length (U.Table.planes upper)) (U.Table.room upper) (L.Table.room lower)) }
+        ensures stack { IfOk result (λ f. fall (U.Table.stack f.upper) (L.Table.stack f.lower) ≡ fall (U.Table.stack upper) (L.Table.stack lower)) }
+        ensures valid { IfOk result (λ f. U.Table.valid f.upper × L.Table.valid f.lower × (length (U.Table.planes f.upper ++ L.Table.planes f.lower) ≤ 8)) }
     {
         if few_enough(upper.plane_count(), lower.plane_count()) {
             Ok(FallThrough { upper, lower })
@@ -102,86 +106,12 @@ impl<U: Table, L: Table<Addr = U::Addr>> FallThrough<U, L> {
         }
     }
 
-    // Announces in the table that has the plane; the other stays as it is.
-    fn announce_in(
-        &mut self,
-        place: Place,
-        prefix: <U::Addr as Address>::Prefix,
-        hop: U::Addr,
-    ) -> Result<(), Refusal>
-        requires upper { U.Table.valid self.old.upper }
-        requires lower { L.Table.valid self.old.lower }
-        ensures upper { U.Table.valid self.new.upper }
-        ensures lower { L.Table.valid self.new.lower }
-        ensures passed { Passed place (λ i. Does U.Table.planes U.Table.view U.Table.room U.Table.stack self.old.upper self.new.upper (on i (announce (U.Addr.Address.pbits prefix) (U.Addr.Address.bits hop))) (of_update result)) (self.new.lower ≡ self.old.lower) (λ i. Does L.Table.planes L.Table.view L.Table.room L.Table.stack self.old.lower self.new.lower (on i (announce (U.Addr.Address.pbits prefix) (U.Addr.Address.bits hop))) (of_update result)) (self.new.upper ≡ self.old.upper) }
-        ensures refused { is_ok result ≡ false → self.new ≡ self.old }
+    // The number that the plane has in the lower table; none for a plane of the upper.
+    fn lower_plane(&self, plane: u16) -> Option<u16>
+        requires { U.Table.valid self.now.upper }
+        ensures { SomeIff result (length (U.Table.planes self.now.upper) ≤ plane) (plane - length (U.Table.planes self.now.upper)) }
     {
-        match place {
-            Place::Upper(i) => self.upper.announce(i, prefix, hop),
-            Place::Lower(i) => self.lower.announce(i, prefix, hop),
-        }
-    }
-
-    // Withdraws from the table that has the plane; the other stays as it is.
-    fn withdraw_in(
-        &mut self,
-        place: Place,
-        prefix: <U::Addr as Address>::Prefix,
-    ) -> Result<(), Refusal>
-        requires upper { U.Table.valid self.old.upper }
-        requires lower { L.Table.valid self.old.lower }
-        ensures upper { U.Table.valid self.new.upper }
-        ensures lower { L.Table.valid self.new.lower }
-        ensures passed { Passed place (λ i. Does U.Table.planes U.Table.view U.Table.room U.Table.stack self.old.upper self.new.upper (on i (withdraw (U.Addr.Address.pbits prefix))) (of_update result)) (self.new.lower ≡ self.old.lower) (λ i. Does L.Table.planes L.Table.view L.Table.room L.Table.stack self.old.lower self.new.lower (on i (withdraw (U.Addr.Address.pbits prefix))) (of_update result)) (self.new.upper ≡ self.old.upper) }
-        ensures refused { is_ok result ≡ false → self.new ≡ self.old }
-    {
-        match place {
-            Place::Upper(i) => self.upper.withdraw(i, prefix),
-            Place::Lower(i) => self.lower.withdraw(i, prefix),
-        }
-    }
-
-    // Fetches from the table that has the plane; the other stays as it is.
-    fn fetch_in(
-        &mut self,
-        place: Place,
-        prefix: <U::Addr as Address>::Prefix,
-    ) -> Result<Option<U::Addr>, Refusal>
-        requires upper { U.Table.valid self.old.upper }
-        requires lower { L.Table.valid self.old.lower }
-        ensures upper { U.Table.valid self.new.upper }
-        ensures lower { L.Table.valid self.new.lower }
-        ensures passed { Passed place (λ i. Does U.Table.planes U.Table.view U.Table.room U.Table.stack self.old.upper self.new.upper (on i (fetch (U.Addr.Address.pbits prefix))) (of_fetch U.Addr.Address.bits result)) (self.new.lower ≡ self.old.lower) (λ i. Does L.Table.planes L.Table.view L.Table.room L.Table.stack self.old.lower self.new.lower (on i (fetch (U.Addr.Address.pbits prefix))) (of_fetch U.Addr.Address.bits result)) (self.new.upper ≡ self.old.upper) }
-        ensures refused { is_ok result ≡ false → self.new ≡ self.old }
-    {
-        match place {
-            Place::Upper(i) => self.upper.fetch(i, prefix),
-            Place::Lower(i) => self.lower.fetch(i, prefix),
-        }
-    }
-
-    // Asks the upper table, and the lower where the upper has none.
-    fn lookup_through(
-        &mut self,
-        address: U::Addr,
-        bound: u8,
-    ) -> Result<Option<(u8, U::Addr)>, Refusal>
-        requires upper { U.Table.valid self.old.upper }
-        requires lower { L.Table.valid self.old.lower }
-        ensures upper { U.Table.valid self.new.upper }
-        ensures lower { L.Table.valid self.new.lower }
-        ensures fallen { Fallen result (λ y. Does U.Table.planes U.Table.view U.Table.room U.Table.stack self.old.upper self.new.upper (lookup (U.Addr.Address.bits address) bound) (of_lookup U.Addr.Address.bits y)) (λ y. Does L.Table.planes L.Table.view L.Table.room L.Table.stack self.old.lower self.new.lower (lookup (U.Addr.Address.bits address) bound) (of_lookup U.Addr.Address.bits y)) (self.new.upper ≡ self.old.upper) (self.new.lower ≡ self.old.lower) }
-    {
-        match self.upper.lookup(address, bound) {
-            Ok(answer) => {
-                if stands(answer) {
-                    Ok(answer)
-                } else {
-                    self.lower.lookup(address, bound)
-                }
-            }
-            Err(refusal) => Err(refusal),
-        }
+        plane.checked_sub(self.upper.plane_count())
     }
 
     // The two tables, exactly as they stand.

@@ -2,5 +2,5 @@
 #![tactic(auto)]
 
 pub mod layer;
-pub mod place;
+pub mod planes;
 pub mod refusal;

@@ -1,18 +1,9 @@
-use Rattle.std.proofs.Common.{arith}
-use Rattle.model.proofs.Steps.{does_of}
-use Rattle.fall_through.proofs.Passing.{passed_on, same_count}
+use Rattle.std.proofs.Common.{rules, arith}
+use Rattle.fall_through.proofs.Passing.{by_upper, by_lower}
 use Rattle.fall_through.proofs.layer.FallThroughTable.withdraw.Goals as goal
 
-pub returns : goal.returns
-returns g c =
-    let u = g.U.Table in
-    let l = g.L.Table in
-    let s = c.args.self.now in
-    let t = c.withdraw_in.new.self in
-    let p = c.locate-place.result in
-    let f = c.withdraw_in.ensures.passed in
-    record {
-      valid = (c.withdraw_in.ensures.upper, c.withdraw_in.ensures.lower, omega (arith, c.requires.2, same_count u.planes u.view u.room u.stack l.planes l.view l.room l.stack s.upper t.upper s.lower t.lower c.args.plane c.plane_count.result _ _ p f));
-      does = does_of (passed_on u.planes u.view u.room u.stack l.planes l.view l.room l.stack s.upper t.upper s.lower t.lower c.args.plane c.plane_count.result _ _ p (u.described s.upper) c.plane_count.ensures c.locate-place.ensures f);
-      refused = c.withdraw_in.ensures.refused;
-    }
+pub returns-in-None-clause-does : goal.returns-in-None-clause-does
+returns-in-None-clause-does g c = by_upper g.U.Table g.L.Table _ _ _ _ _ (grind arith) (search rules)
+
+pub returns-in-Some-clause-does : goal.returns-in-Some-clause-does
+returns-in-Some-clause-does g c = by_lower g.U.Table g.L.Table _ _ _ _ _ (grind arith) (grind arith)
