@@ -3,3 +3,4 @@
 
 pub mod forwarding;
 pub mod loading;
+pub mod staged;
