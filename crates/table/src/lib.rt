@@ -1,7 +1,9 @@
-// The table interface, the calls as values, and `run`, which carries the promise over whole lists of calls.
+// The table interface, the calls as values, `run`, which carries the promise over whole lists of calls, and what tables of one plane
+// have in common.
 #![tactic(auto)]
 
 pub mod calls;
 pub mod interface;
+pub mod one_plane;
 pub mod run;
 pub mod single;
