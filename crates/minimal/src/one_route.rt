@@ -8,7 +8,8 @@
 //   them for tables of one plane, OneRoute for planes of at most one route;
 // - the calls `plane_count`, `announce`, `withdraw`, `fetch` and `lookup`. Private functions say what is held and found in the plane;
 //   from there each call is proved with no more said, or else by `single_does` and the lemma for its outcome, both of OnePlane.
-ghost use Rattle.std.specs.Prelude.{◌≡◌, ◌≤◌, ◌&&◌, [], ◌∷◌, length, ◌==◌, nat_le, refl};
+// What tables of one plane have in common, such as `has_plane`, is in `table::one_plane`.
+ghost use Rattle.std.specs.Prelude.{◌≡◌, ◌≤◌, ◌&&◌, [], ◌∷◌, length, nat_le, refl};
 ghost use Rattle.bits.specs.Bits.{covers, equal};
 ghost use Rattle.model.specs.Maps.{held, put};
 ghost use Rattle.model.specs.Longest.{answer};
@@ -24,12 +25,9 @@ ghost use Rattle.minimal.specs.Held.{plane_of, one_room};
 
 use address::kind::Address;
 use address::prefixes::{covers_address, order_prefixes};
-use std::cmp::Ordering;
 use table::calls::Refusal;
 use table::interface::Table;
-
-// The table has one plane, number 0.
-const PLANES: u16 = 1;
+use table::one_plane::{PLANES, has_plane};
 
 // A prefix with its next hop.
 #[derive(Clone, Copy)]
@@ -44,22 +42,11 @@ pub struct OneRoute<A: Address> {
     route: Option<Route<A, A::Prefix>>,
 }
 
-// Whether the table has the plane.
-fn has_plane(plane: u16) -> bool
-    ensures { result ≡ (plane == 0) }
-{
-    plane < PLANES
-}
-
 // Whether the two are one prefix.
 fn is_same<A: Address>(p: A::Prefix, q: A::Prefix) -> bool
     ensures { result ≡ equal (A.Address.pbits p) (A.Address.pbits q) }
 {
-    match order_prefixes::<A>(p, q) {
-        Ordering::Less => false,
-        Ordering::Equal => true,
-        Ordering::Greater => false,
-    }
+    order_prefixes::<A>(p, q).is_eq()
 }
 
 // Whether the prefix covers the address and is no longer than the bound.
@@ -81,43 +68,28 @@ impl<A: Address> OneRoute<A> {
     fn hop_of(&self, prefix: A::Prefix) -> Option<A>
         ensures { as_hop A.Address.bits result ≡ held (plane_of A.Address.bits A.Address.pbits self.now.route) (A.Address.pbits prefix) }
     {
-        match self.route {
-            Some(route) => {
-                if is_same::<A>(prefix, route.prefix) {
-                    Some(route.hop)
-                } else {
-                    None
-                }
-            }
-            None => None,
-        }
+        self.route
+            .filter(|route| is_same::<A>(prefix, route.prefix))
+            .map(|route| route.hop)
     }
 
     // Whether no more than one route is held once the prefix is announced.
     fn has_room(&self, prefix: A::Prefix) -> bool
         ensures { (h : Hop) → result ≡ one_room 0 (put (plane_of A.Address.bits A.Address.pbits self.now.route) (A.Address.pbits prefix) h) }
     {
-        match self.route {
-            Some(route) => is_same::<A>(prefix, route.prefix),
-            None => true,
-        }
+        self.route
+            .is_none_or(|route| is_same::<A>(prefix, route.prefix))
     }
 
     // The length and hop of the route, if it matches.
+    #[tactic(auto, using(crate::proofs::OneFound::answer_one))]
     fn longest(&self, address: A, bound: u8) -> Option<(u8, A)>
         requires { bound ≤ A.Address.width }
         ensures { as_answer A.Address.bits result ≡ answer (held (plane_of A.Address.bits A.Address.pbits self.now.route)) (A.Address.bits address) bound }
     {
-        match self.route {
-            Some(route) => {
-                if matches::<A>(route.prefix, address, bound) {
-                    Some((A::len(route.prefix), route.hop))
-                } else {
-                    None
-                }
-            }
-            None => None,
-        }
+        self.route
+            .filter(|route| matches::<A>(route.prefix, address, bound))
+            .map(|route| (A::len(route.prefix), route.hop))
     }
 }
 
