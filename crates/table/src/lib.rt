@@ -2,8 +2,8 @@
 // have in common.
 #![tactic(auto)]
 
+pub mod borrowed;
 pub mod calls;
 pub mod interface;
 pub mod one_plane;
 pub mod run;
-pub mod single;
