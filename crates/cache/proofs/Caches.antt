@@ -1,16 +1,33 @@
 -- What the code's slots and caches say of those of the slot rule. Assumes nothing.
-use Rattle.std.proofs.Common.{◌≡◌, ℕ, min, Bool, true, false, cond, ltb, List, [], ◌∷◌, map, length, get_or, replicate, is_ok, Some, None, Ok, Err, Option, Result, sym, refl, ap, ◌∙◌, arith}
-use Rattle.std.proofs.lemmas.List.{length-replicate, get_or_past}
-use Rattle.std.proofs.lemmas.Bool.{ltb-false}
+use Rattle.std.proofs.Common.{◌≡◌, ℕ, ◌+◌, ◌<◌, min, Bool, true, false, cond, ltb, nat_eq, ◌&&◌, List, [], ◌∷◌, ◌++◌, map, length, get_or, take, drop, set, replicate, is_ok, Some, None, Ok, Err, Option, Result, sym, refl, ap, ◌∙◌, arith}
+use Rattle.std.proofs.lemmas.List.{length-map, length-replicate, get_or-map, get_or_past, map-set}
+use Rattle.std.proofs.lemmas.List.Edits.{map_over_more}
+use Rattle.std.proofs.lemmas.Bool.{ltb-false, and_parts, eqb-true, eq-eqb}
 use Rattle.bits.specs.Bits.{Bits, covers, equal}
+use Rattle.bits.specs.declared.halves.Halves.{Halves}
+use Rattle.bits.proofs.Fronts.{halves_equal}
 use Rattle.bits.proofs.Orders.{equal_is}
-use Rattle.model.specs.Machine.{Act, Answer}
+use Rattle.model.specs.Laws.{Local}
+use Rattle.model.specs.Machine.{Act, Answer, on, done}
 use Rattle.model.specs.Slots.{Slot, holds_address, reaches, cleared}
-use Rattle.model.proofs.CacheLaws.{slots_left}
-use Rattle.table.specs.Meaning.{of_update}
-use Rattle.table.specs.declared.calls.Refusal.{Refusal}
-use Rattle.cache.specs.Entries.{answer_in, emptied, Answered, Sized}
+use Rattle.model.specs.Stack.{AllUpToDate}
+use Rattle.model.proofs.CacheLaws.{cached, cache_act, current_acted}
+use Rattle.model.proofs.Steps.{At, Step, DescribedAt}
+use Rattle.cache.specs.Entries.{answer_in, emptied, Sized}
 use Rattle.cache.specs.declared.cache.Cache.{Cache}
+
+-- the derived test of halves holds exactly where they are the same
+pub halves_test : (x y : Halves) → (nat_eq x.hi y.hi && nat_eq x.lo y.lo) ≡ true → x ≡ y
+halves_test x y t = let k = and_parts _ _ t in halves_equal x y (eqb-true _ _ k.0) (eqb-true _ _ k.1)
+
+pub halves_same : (x y : Halves) → x ≡ y → (nat_eq x.hi y.hi && nat_eq x.lo y.lo) ≡ true
+halves_same x y e = rw (eq-eqb _ _ (ap (λ (h : Halves). h.hi) e), eq-eqb _ _ (ap (λ (h : Halves). h.lo) e)) refl
+
+-- a loop that writes over each element one that stands for the change h of what it stood for
+pub swept_more : {X : Type 0} (f : X → Slot) (h : Slot → Slot) (xs ys : List X) (i : ℕ) (z d : X) → i < length ys → length ys ≡ length xs → map f ys ≡ map h (take i (map f xs)) ++ drop i (map f xs) → f z ≡ h (f (get_or ys i d)) → map f (set ys i z) ≡ map h (take (i + 1) (map f xs)) ++ drop (i + 1) (map f xs)
+swept_more f h xs ys i z d l n e now =
+    let m : i < length (map f xs) = omega (arith, length-map xs f) in
+    map-set f ys i z ∙ ap (set (map f ys) i) now ∙ map_over_more h (map f xs) (map f ys) i (f (get_or ys i d)) m e (sym (get_or-map f ys i d (f (get_or ys i d)) l))
 
 -- a cache is its table, its slots and their number
 pub same_cache : {T A P : Type 0} (s t : Cache T A P) → s.inner ≡ t.inner → s.count ≡ t.count → s.slots ≡ t.slots → s ≡ t
@@ -55,13 +72,6 @@ update_clears act p r [] = refl
 update_clears act p r (None ∷ es) = ap (λ (t : List Slot). None ∷ t) (update_clears act p r es)
 update_clears act p r (Some e ∷ es) = rw (r e.0, update_clears act p r es) refl
 
--- the slots that an update leaves, by its reply
-pub update_leaves : {U : Type 0} (act : Act) (p : Bits) → ((a : Bits) → reaches act a ≡ covers p a) → (es : List Slot) (r : Result U Refusal) → cond (is_ok r) (map (emptied p) es) es ≡ slots_left act (of_update r) es
-update_leaves act p h es (Ok u) = update_clears act p h es
-update_leaves act p h es (Err n) = refl
-
--- a lookup by the answer that is held
-pub by_held : {A G : Type 0} (F : Option (Option (ℕ × A)) → Type 0) (asked : Result (Option (ℕ × A)) Refusal → Type 0) (stays : Type 0) (stored : Option (ℕ × A) → Type 0) (r : Result (Option (ℕ × A)) Refusal) (o : Option (Option (ℕ × A))) → F o → Answered o r stays (asked r) stored → ((x : Option (ℕ × A)) → r ≡ Ok x → F (Some x) → stays → G) → ((x : Option (ℕ × A)) → r ≡ Ok x → F None → asked (Ok x) → stored x → G) → ((n : Refusal) → F None → asked (Err n) → G) → G
-by_held F asked stays stored r (Some x) h k hit miss fails = hit x k.0 h k.1
-by_held F asked stays stored (Ok x) None h k hit miss fails = miss x refl h k.0 k.1
-by_held F asked stays stored (Err n) None h k hit miss fails = fails n h k
+-- an accepted update that reaches what the prefix covers, with those slots emptied: what the cache did, and that it is up to date
+pub updated : (n : ℕ) (s t : At) (i : ℕ) (act : Act) (p : Bits) (es left : List Slot) → ((a : Bits) → reaches act a ≡ covers p a) → DescribedAt s → Local s.view → left ≡ map (emptied p) es → AllUpToDate (s.view s.planes) es → Step s t (on i act) done → Step (cached n es s) (cached n left t) (on i act) done × AllUpToDate (t.view t.planes) left
+updated n s t i act p es left r x local e h f = let k = e ∙ update_clears act p r es in (cache_act n es s x t i act left k f, current_acted s t i act es left local k f h)

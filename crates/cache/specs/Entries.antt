@@ -31,13 +31,6 @@ abbrev pub emptied : Bits → Slot → Slot
 emptied p None = None
 emptied p (Some e) = cond (covers p e.0) None (Some e)
 
--- a lookup by the answer that is held for the address: with one the cache stays and gives it; with none the table below is asked,
--- and what it answers is stored
-abbrev pub Answered : {A : Type 0} → Option (Option (ℕ × A)) → Result (Option (ℕ × A)) Refusal → Type 0 → Type 0 → (Option (ℕ × A) → Type 0) → Type 0
-Answered (Some x) r stays asked stored = (r ≡ Ok x) × stays
-Answered None (Ok x) stays asked stored = asked × stored x
-Answered None (Err n) stays asked stored = asked
-
 -- there are 4,096 slots, and no more are used
 pub record Sized {X : Type 0} (count : ℕ) (slots : List X) : Type 0 where
   pub few : count ≤ 4096

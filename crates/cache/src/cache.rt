@@ -4,10 +4,10 @@ ghost use Rattle.model.specs.Machine.{on, announce, withdraw, lookup};
 ghost use Rattle.model.specs.Stack.{cache, AllUpToDate};
 ghost use Rattle.model.proofs.CacheLaws.{cache_described, cache_current};
 ghost use Rattle.table.specs.Meaning.{of_update, of_lookup};
-ghost use Rattle.cache.specs.Entries.{as_slots, emptied, Answered, Sized};
+ghost use Rattle.cache.specs.Entries.{as_slots, Sized};
 
 use crate::entry::Entry;
-use crate::slots::{hit, in_full, slot_of, store, sweep};
+use crate::slots::{SLOTS, hit, in_full, slot_of, sweep};
 use address::kind::Address;
 use table::calls::Refusal;
 use table::interface::Table;
@@ -17,14 +17,7 @@ use table::interface::Table;
 pub struct Cache<T: Table> {
     inner: T,
     count: usize,
-    slots: [Option<Entry<T::Addr>>; 4096],
-}
-
-// The number of slots that are used where `count` are asked for.
-fn capped(count: usize) -> usize
-    ensures { result ≡ min count 4096 }
-{
-    if count < 4096 { count } else { 4096 }
+    slots: [Option<Entry<T::Addr>>; SLOTS],
 }
 
 impl<T: Table> Cache<T> {
@@ -39,8 +32,8 @@ impl<T: Table> Cache<T> {
     {
         Cache {
             inner,
-            count: capped(count),
-            slots: [None; 4096],
+            count: count.min(SLOTS),
+            slots: [None; SLOTS],
         }
     }
 
@@ -70,86 +63,7 @@ impl<T: Table> Cache<T> {
         if i >= self.count {
             return None;
         }
-        match self.slots.get(i) {
-            Some(slot) => *slot,
-            None => None,
-        }
-    }
-
-    // Announces below; where that is accepted, the entries that the prefix covers go.
-    fn announce_below(
-        &mut self,
-        plane: u16,
-        prefix: <T::Addr as Address>::Prefix,
-        hop: T::Addr,
-    ) -> Result<(), Refusal>
-        requires below { T.Table.valid self.old.inner }
-        requires all { length self.old.slots ≡ 4096 }
-        ensures below { T.Table.valid self.new.inner }
-        ensures does { Does T.Table.planes T.Table.view T.Table.room T.Table.stack self.old.inner self.new.inner (on plane (announce (T.Addr.Address.pbits prefix) (T.Addr.Address.bits hop))) (of_update result) }
-        ensures slots { as_slots T.Addr.Address.bits self.new.slots ≡ (if is_ok result then map (emptied (T.Addr.Address.pbits prefix)) (as_slots T.Addr.Address.bits self.old.slots) else as_slots T.Addr.Address.bits self.old.slots) }
-        ensures count { self.new.count ≡ self.old.count }
-        ensures all { length self.new.slots ≡ 4096 }
-        ensures refused { is_ok result ≡ false → self.new ≡ self.old }
-    {
-        match self.inner.announce(plane, prefix, hop) {
-            Ok(done) => {
-                sweep(&mut self.slots, prefix);
-                Ok(done)
-            }
-            Err(refusal) => Err(refusal),
-        }
-    }
-
-    // Withdraws below; where that is accepted, the entries that the prefix covers go.
-    fn withdraw_below(
-        &mut self,
-        plane: u16,
-        prefix: <T::Addr as Address>::Prefix,
-    ) -> Result<(), Refusal>
-        requires below { T.Table.valid self.old.inner }
-        requires all { length self.old.slots ≡ 4096 }
-        ensures below { T.Table.valid self.new.inner }
-        ensures does { Does T.Table.planes T.Table.view T.Table.room T.Table.stack self.old.inner self.new.inner (on plane (withdraw (T.Addr.Address.pbits prefix))) (of_update result) }
-        ensures slots { as_slots T.Addr.Address.bits self.new.slots ≡ (if is_ok result then map (emptied (T.Addr.Address.pbits prefix)) (as_slots T.Addr.Address.bits self.old.slots) else as_slots T.Addr.Address.bits self.old.slots) }
-        ensures count { self.new.count ≡ self.old.count }
-        ensures all { length self.new.slots ≡ 4096 }
-        ensures refused { is_ok result ≡ false → self.new ≡ self.old }
-    {
-        match self.inner.withdraw(plane, prefix) {
-            Ok(done) => {
-                sweep(&mut self.slots, prefix);
-                Ok(done)
-            }
-            Err(refusal) => Err(refusal),
-        }
-    }
-
-    // The answer that is held for the address; where none is, the one from below, which slot `i` then holds.
-    fn answered(
-        &mut self,
-        held: Option<Option<(u8, T::Addr)>>,
-        i: usize,
-        address: T::Addr,
-        bound: u8,
-    ) -> Result<Option<(u8, T::Addr)>, Refusal>
-        requires below { T.Table.valid self.old.inner }
-        requires all { length self.old.slots ≡ 4096 }
-        requires there { i < 4096 }
-        ensures below { T.Table.valid self.new.inner }
-        ensures count { self.new.count ≡ self.old.count }
-        ensures answered { Answered held result (self.new ≡ self.old) (Does T.Table.planes T.Table.view T.Table.room T.Table.stack self.old.inner self.new.inner (lookup (T.Addr.Address.bits address) bound) (of_lookup T.Addr.Address.bits result)) (λ x. self.new.slots ≡ slice_set self.old.slots i (Some (record { address = address; answer = x }))) }
-    {
-        match held {
-            Some(answer) => Ok(answer),
-            None => match self.inner.lookup(address, bound) {
-                Ok(answer) => {
-                    store(&mut self.slots, i, address, answer);
-                    Ok(answer)
-                }
-                Err(refusal) => Err(refusal),
-            },
-        }
+        *self.slots.get(i)?
     }
 }
 
@@ -187,7 +101,9 @@ impl<T: Table> Table for Cache<T> {
         prefix: <T::Addr as Address>::Prefix,
         hop: T::Addr,
     ) -> Result<(), Refusal> {
-        self.announce_below(plane, prefix, hop)
+        self.inner.announce(plane, prefix, hop)?;
+        sweep(&mut self.slots, prefix);
+        Ok(())
     }
 
     fn withdraw(
@@ -195,7 +111,9 @@ impl<T: Table> Table for Cache<T> {
         plane: u16,
         prefix: <T::Addr as Address>::Prefix,
     ) -> Result<(), Refusal> {
-        self.withdraw_below(plane, prefix)
+        self.inner.withdraw(plane, prefix)?;
+        sweep(&mut self.slots, prefix);
+        Ok(())
     }
 
     fn fetch(
@@ -212,7 +130,11 @@ impl<T: Table> Table for Cache<T> {
             return self.inner.lookup(address, bound);
         }
         let i = slot_of(address, self.count);
-        let held = hit(self.slots[i], address);
-        self.answered(held, i, address, bound)
+        if let Some(answer) = hit(self.slots[i], address) {
+            return Ok(answer);
+        }
+        let answer = self.inner.lookup(address, bound)?;
+        self.slots[i] = Some(Entry { address, answer });
+        Ok(answer)
     }
 }

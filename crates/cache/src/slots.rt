@@ -1,4 +1,4 @@
-ghost use Rattle.std.specs.Prelude.{◌≡◌, ◌-◌, ◌%◌, ◌<◌, ◌≤◌, map, length, drop, set, Some};
+ghost use Rattle.std.specs.Prelude.{◌≡◌, ◌-◌, ◌%◌, ◌<◌, ◌≤◌, map, length, drop};
 ghost use Rattle.bits.specs.Bits.{equal};
 ghost use Rattle.bits.specs.Halves.{front};
 ghost use Rattle.model.specs.Slots.{number, slot_of, in_full};
@@ -8,6 +8,9 @@ use crate::entry::Entry;
 use address::kind::Address;
 use address::prefixes::covers_address;
 use bits::halves::Halves;
+
+// A cache has so many slots, of which it may use fewer.
+pub const SLOTS: usize = 4096;
 
 // The last 16 bits of a number.
 fn low_16(value: u128) -> usize
@@ -55,60 +58,31 @@ pub fn in_full<A: Address>(count: usize, address: A, bound: u8) -> bool
 fn same_address<A: Address>(a: A, b: A) -> bool
     ensures { result ≡ equal (A.Address.bits a) (A.Address.bits b) }
 {
-    let x = a.to_halves();
-    let y = b.to_halves();
-    x.hi == y.hi && x.lo == y.lo
+    a.to_halves() == b.to_halves()
 }
 
 // The answer in the slot, if the slot holds this address.
 pub fn hit<A: Address>(slot: Option<Entry<A>>, address: A) -> Option<Option<(u8, A)>>
     ensures { as_hit A.Address.bits result ≡ answer_in (as_slot A.Address.bits slot) (A.Address.bits address) }
 {
-    if let Some(entry) = slot {
-        if same_address(entry.address, address) {
-            return Some(entry.answer);
-        }
-    }
-    None
+    let entry = slot?;
+    same_address(entry.address, address).then_some(entry.answer)
 }
 
 // The slot after an update of the prefix: empty if the prefix covers its address.
 fn swept<A: Address>(slot: Option<Entry<A>>, prefix: A::Prefix) -> Option<Entry<A>>
     ensures { as_slot A.Address.bits result ≡ emptied (A.Address.pbits prefix) (as_slot A.Address.bits slot) }
 {
-    match slot {
-        Some(entry) => {
-            if covers_address(prefix, entry.address) {
-                None
-            } else {
-                Some(entry)
-            }
-        }
-        None => None,
-    }
+    slot.filter(|entry| !covers_address(prefix, entry.address))
 }
 
 // Empties the slots whose address the prefix covers.
-pub fn sweep<A: Address>(slots: &mut [Option<Entry<A>>; 4096], prefix: A::Prefix)
+pub fn sweep<A: Address>(slots: &mut [Option<Entry<A>>; SLOTS], prefix: A::Prefix)
     requires { length slots.old ≡ 4096 }
     ensures all { length slots.new ≡ 4096 }
     ensures swept { as_slots A.Address.bits slots.new ≡ map (emptied (A.Address.pbits prefix)) (as_slots A.Address.bits slots.old) }
 {
-    for i in 0..slots.len() {
-        slots[i] = swept(slots[i], prefix);
+    for slot in slots.iter_mut() {
+        *slot = swept(*slot, prefix);
     }
-}
-
-// Writes an entry for the address into slot `i`.
-pub fn store<A: Copy>(
-    slots: &mut [Option<Entry<A>>; 4096],
-    i: usize,
-    address: A,
-    answer: Option<(u8, A)>,
-)
-    requires all { length slots.old ≡ 4096 }
-    requires there { i < 4096 }
-    ensures { slots.new ≡ set slots.old i (Some (record { address = address; answer = answer })) }
-{
-    slots[i] = Some(Entry { address, answer });
 }

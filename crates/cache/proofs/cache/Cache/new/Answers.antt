@@ -16,6 +16,6 @@ returns g c =
       planes = refl;
       view = refl;
       room = refl;
-      stack = ap (λ n. cache n (as_slots g.T.Addr.Address.bits (replicate 4096 None)) (t.stack s)) c.capped.ensures ∙ ap (λ (es : List Slot). cache (min c.args.count 4096) es (t.stack s)) e;
-      valid = λ v. (v, subst (λ (es : List Slot). AllUpToDate (t.view s (t.planes s)) es) (sym e) (current_empty (t.view s (t.planes s)) 4096), sized_new _ _ _ c.capped.ensures);
+      stack = ap (λ n. cache n (as_slots g.T.Addr.Address.bits (replicate 4096 None)) (t.stack s)) c.min.ensures ∙ ap (λ (es : List Slot). cache (min c.args.count 4096) es (t.stack s)) e;
+      valid = λ v. (v, subst (λ (es : List Slot). AllUpToDate (t.view s (t.planes s)) es) (sym e) (current_empty (t.view s (t.planes s)) 4096), sized_new _ _ _ c.min.ensures);
     }
