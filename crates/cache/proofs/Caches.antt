@@ -1,8 +1,8 @@
 -- What the code's slots and caches say of those of the slot rule. Assumes nothing.
-use Rattle.std.proofs.Common.{◌≡◌, ℕ, ◌+◌, ◌<◌, min, Bool, true, false, cond, ltb, nat_eq, ◌&&◌, List, [], ◌∷◌, ◌++◌, map, length, get_or, take, drop, set, replicate, is_ok, Some, None, Ok, Err, Option, Result, sym, refl, ap, ◌∙◌, arith}
-use Rattle.std.proofs.lemmas.List.{length-map, length-replicate, get_or-map, get_or_past, map-set}
+use Rattle.std.proofs.Common.{◌≡◌, ℕ, ◌+◌, ◌<◌, Bool, true, false, cond, nat_eq, ◌&&◌, List, [], ◌∷◌, ◌++◌, map, length, get_or, take, drop, set, Some, None, sym, refl, ap, ◌∙◌, arith}
+use Rattle.std.proofs.lemmas.List.{length-map, get_or-map, map-set}
 use Rattle.std.proofs.lemmas.List.Edits.{map_over_more}
-use Rattle.std.proofs.lemmas.Bool.{ltb-false, and_parts, eqb-true, eq-eqb}
+use Rattle.std.proofs.lemmas.Bool.{and_parts, eqb-true, eq-eqb}
 use Rattle.bits.specs.Bits.{Bits, covers, equal}
 use Rattle.bits.specs.declared.halves.Halves.{Halves}
 use Rattle.bits.proofs.Fronts.{halves_equal}
@@ -13,8 +13,7 @@ use Rattle.model.specs.Slots.{Slot, holds_address, reaches, cleared}
 use Rattle.model.specs.Stack.{AllUpToDate}
 use Rattle.model.proofs.CacheLaws.{cached, cache_act, current_acted}
 use Rattle.model.proofs.Steps.{At, Step, DescribedAt}
-use Rattle.cache.specs.Entries.{answer_in, emptied, Sized}
-use Rattle.cache.specs.declared.cache.Cache.{Cache}
+use Rattle.cache.specs.Entries.{answer_in, emptied}
 
 -- the derived test of halves holds exactly where they are the same
 pub halves_test : (x y : Halves) → (nat_eq x.hi y.hi && nat_eq x.lo y.lo) ≡ true → x ≡ y
@@ -29,41 +28,21 @@ swept_more f h xs ys i z d l n e now =
     let m : i < length (map f xs) = omega (arith, length-map xs f) in
     map-set f ys i z ∙ ap (set (map f ys) i) now ∙ map_over_more h (map f xs) (map f ys) i (f (get_or ys i d)) m e (sym (get_or-map f ys i d (f (get_or ys i d)) l))
 
--- a cache is its table, its slots and their number
-pub same_cache : {T A P : Type 0} (s t : Cache T A P) → s.inner ≡ t.inner → s.count ≡ t.count → s.slots ≡ t.slots → s ≡ t
-same_cache s t e f g = λ i. record {
-  inner = e i;
-  count = f i;
-  slots = g i;
-}
-
--- an empty cache has its slots
-pub sized_new : {X : Type 0} (n m : ℕ) (x : X) → n ≡ min m 4096 → Sized n (replicate 4096 x)
-sized_new n m x e = record { few = omega arith; all = length-replicate 4096 x }
-
--- past the slots there is nothing
-pub none_past : {X : Type 0} (es : List (Option X)) (i n : ℕ) → false ≡ ltb i (length es) → None ≡ cond (ltb i n) (get_or es i None) None
-none_past {X} es i n e = go (ltb i n)
-  where
-    go : (b : Bool) → ◌≡◌ {A = Option X} None (cond b (get_or es i None) None)
-    go true = sym (get_or_past es i None (ltb-false i (length es) (sym e)))
-    go false = refl
-
 -- the slot has an answer for the address exactly where it holds it
 pub answer_there : (s : Slot) (a : Bits) (w : Answer) → Some w ≡ answer_in s a → s ≡ Some (a, w)
-answer_there None a w e = let z : ◌≡◌ {A = ℕ} 0 1 = cc in absurd (omega arith)
+answer_there None a w e = cc
 answer_there (Some x) a w e = go (equal x.0 a) refl e
   where
     go : (b : Bool) → equal x.0 a ≡ b → Some w ≡ cond b (Some x.1) None → Some x ≡ Some (a, w)
-    go true f h = let i : x.0 ≡ a = equal_is x.0 a f in let j : w ≡ x.1 = cc in ap (λ b. Some (b, x.1)) i ∙ ap (λ v. Some (a, v)) (sym j)
-    go false f h = let z : ◌≡◌ {A = ℕ} 0 1 = cc in absurd (omega arith)
+    go true f h = let i : x.0 ≡ a = equal_is x.0 a f in let j : w ≡ x.1 = cc in rw (← i, j) refl
+    go false f h = cc
 
 pub answer_not : (s : Slot) (a : Bits) → None ≡ answer_in s a → holds_address s a ≡ false
 answer_not None a e = refl
 answer_not (Some x) a e = go (equal x.0 a) e
   where
     go : (b : Bool) → None ≡ cond b (Some x.1) None → b ≡ false
-    go true h = let z : ◌≡◌ {A = ℕ} 0 1 = cc in absurd (omega arith)
+    go true h = cc
     go false h = refl
 
 -- an accepted act that reaches what the prefix covers empties those slots

@@ -1,10 +1,9 @@
 -- What the entries of the code stand for: slots of the slot rule.
-use Rattle.std.specs.Prelude.{◌≡◌, ℕ, ◌≤◌, cond, List, map, length, Some, None, Ok, Err, Option, Result}
+use Rattle.std.specs.Prelude.{◌≡◌, ℕ, ◌≤◌, cond, List, map, length, Some, None, Option}
 use Rattle.bits.specs.Bits.{Bits, covers, equal}
 use Rattle.model.specs.Machine.{Answer}
 use Rattle.model.specs.Slots.{Slot}
 use Rattle.table.specs.Meaning.{as_answer}
-use Rattle.table.specs.declared.calls.Refusal.{Refusal}
 use Rattle.cache.specs.declared.entry.Entry.{Entry}
 
 -- one slot: empty, or an address with its answer

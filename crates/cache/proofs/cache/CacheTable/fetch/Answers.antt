@@ -1,8 +1,7 @@
-use Rattle.std.proofs.Common.{refl}
+use Rattle.std.proofs.Common.{rules}
 use Rattle.model.proofs.CacheLaws.{fetch_keeps, cache_act, current_acted}
 use Rattle.model.proofs.Steps.{step_of, does_of}
 use Rattle.cache.specs.Entries.{as_slots}
-use Rattle.cache.proofs.Caches.{same_cache}
 use Rattle.cache.proofs.cache.CacheTable.fetch.Goals as goal
 
 pub returns : goal.returns
@@ -15,5 +14,5 @@ returns g c =
     record {
       valid = (c.fetch.ensures.valid, current_acted _ _ _ _ es es (t.local s.inner) k f c.requires.1, c.requires.2);
       does = does_of (cache_act s.count es _ (t.described s.inner) _ _ _ es k f);
-      refused = λ e. same_cache _ _ (c.fetch.ensures.refused e) refl refl;
+      refused = search rules;
     }
