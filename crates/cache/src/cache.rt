@@ -1,9 +1,6 @@
-ghost use Rattle.std.specs.Prelude.{◌≡◌, ◌<◌, min, false, map, length, replicate, is_ok, if◌then◌else◌, Some, None, nat_lt, slice_index_or, slice_set};
-ghost use Rattle.model.specs.Laws.{Does};
-ghost use Rattle.model.specs.Machine.{on, announce, withdraw, lookup};
+ghost use Rattle.std.specs.Prelude.{◌≡◌, min, replicate, if◌then◌else◌, None, nat_lt, slice_index_or};
 ghost use Rattle.model.specs.Stack.{cache, AllUpToDate};
 ghost use Rattle.model.proofs.CacheLaws.{cache_described, cache_current};
-ghost use Rattle.table.specs.Meaning.{of_update, of_lookup};
 ghost use Rattle.cache.specs.Entries.{as_slots, Sized};
 
 use crate::entry::Entry;
@@ -41,12 +38,7 @@ impl<T: Table> Cache<T> {
     pub fn into_inner(self) -> T
         ensures { result ≡ self.inner }
     {
-        let Cache {
-            inner,
-            count: _,
-            slots: _,
-        } = self;
-        inner
+        self.inner
     }
 
     // The table below, to look at.
