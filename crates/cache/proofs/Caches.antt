@@ -7,13 +7,14 @@ use Rattle.bits.specs.Bits.{Bits, covers, equal}
 use Rattle.bits.specs.declared.halves.Halves.{Halves}
 use Rattle.bits.proofs.Fronts.{halves_equal}
 use Rattle.bits.proofs.Orders.{equal_is}
-use Rattle.model.specs.Laws.{Local}
-use Rattle.model.specs.Machine.{Act, Answer, on, done}
+use Rattle.model.specs.Laws.{Local, Does}
+use Rattle.model.specs.Machine.{Plane, View, Room, Act, Reply, Answer, on}
 use Rattle.model.specs.Slots.{Slot, holds_address, reaches, cleared}
-use Rattle.model.specs.Stack.{AllUpToDate}
-use Rattle.model.proofs.CacheLaws.{cached, cache_act, current_acted}
-use Rattle.model.proofs.Steps.{At, Step, DescribedAt}
-use Rattle.cache.specs.Entries.{answer_in, emptied}
+use Rattle.model.specs.Stack.{Stack, cache, AllUpToDate, Described}
+use Rattle.model.proofs.CacheLaws.{slots_left, cache_act, current_acted}
+use Rattle.model.proofs.Steps.{at, step_of, does_of}
+use Rattle.cache.specs.Entries.{as_slots, answer_in, emptied}
+use Rattle.cache.specs.declared.cache.Cache.{Cache}
 
 -- the derived test of halves holds exactly where they are the same
 pub halves_test : (x y : Halves) → (nat_eq x.hi y.hi && nat_eq x.lo y.lo) ≡ true → x ≡ y
@@ -51,6 +52,11 @@ update_clears act p r [] = refl
 update_clears act p r (None ∷ es) = ap (λ (t : List Slot). None ∷ t) (update_clears act p r es)
 update_clears act p r (Some e ∷ es) = rw (r e.0, update_clears act p r es) refl
 
--- an accepted update that reaches what the prefix covers, with those slots emptied: what the cache did, and that it is up to date
-pub updated : (n : ℕ) (s t : At) (i : ℕ) (act : Act) (p : Bits) (es left : List Slot) → ((a : Bits) → reaches act a ≡ covers p a) → DescribedAt s → Local s.view → left ≡ map (emptied p) es → AllUpToDate (s.view s.planes) es → Step s t (on i act) done → Step (cached n es s) (cached n left t) (on i act) done × AllUpToDate (t.view t.planes) left
-updated n s t i act p es left r x local e h f = let k = e ∙ update_clears act p r es in (cache_act n es s x t i act left k f, current_acted s t i act es left local k f h)
+module _ {T : Type 0} (planes : T → List Plane) (view : T → View) (room : T → Room) (stack : T → Stack) where
+  -- an act below: the slots that it leaves are up to date
+  pub act_current : (s t : T) (i : ℕ) (act : Act) (y : Reply) (es left : List Slot) → left ≡ slots_left act y es → Does planes view room stack s t (on i act) y → Local (view s) → AllUpToDate (view s (planes s)) es → AllUpToDate (view t (planes t)) left
+  act_current s t i act y es left l f local h = current_acted (at planes view room stack s) (at planes view room stack t) i act es left local l (step_of f) h
+
+  -- and with them the cache did the act
+  pub act_done : {A P : Type 0} (bits : A → Bits) (s t : Cache T A P) (i : ℕ) (act : Act) (y : Reply) → as_slots bits t.slots ≡ slots_left act y (as_slots bits s.slots) → Does planes view room stack s.inner t.inner (on i act) y → Described (stack s.inner) (planes s.inner) (view s.inner) (room s.inner) → t.count ≡ s.count → Does (λ x. planes x.inner) (λ x. view x.inner) (λ x. room x.inner) (λ x. cache x.count (as_slots bits x.slots) (stack x.inner)) s t (on i act) y
+  act_done bits s t i act y l f x e = rw e (does_of (cache_act s.count (as_slots bits s.slots) (at planes view room stack s.inner) x (at planes view room stack t.inner) i act _ l (step_of f)))

@@ -93,9 +93,9 @@ impl<T: Table> Table for Cache<T> {
         prefix: <T::Addr as Address>::Prefix,
         hop: T::Addr,
     ) -> Result<(), Refusal> {
-        self.inner.announce(plane, prefix, hop)?;
+        let done = self.inner.announce(plane, prefix, hop)?;
         sweep(&mut self.slots, prefix);
-        Ok(())
+        Ok(done)
     }
 
     fn withdraw(
@@ -103,9 +103,9 @@ impl<T: Table> Table for Cache<T> {
         plane: u16,
         prefix: <T::Addr as Address>::Prefix,
     ) -> Result<(), Refusal> {
-        self.inner.withdraw(plane, prefix)?;
+        let done = self.inner.withdraw(plane, prefix)?;
         sweep(&mut self.slots, prefix);
-        Ok(())
+        Ok(done)
     }
 
     fn fetch(

@@ -35,7 +35,7 @@ returns g c =
     let l : c.slot_of-i.result < length s.slots = omega (arith, c.slot_of-i.ensures.below, c.requires.2.few, c.requires.2.all) in
     let i = c.slot_of-i.ensures.which in
     let x = at t.planes t.view t.room t.stack s.inner in
-    let y = at t.planes t.view t.room t.stack c.lookup-2.new.self in
+    let y = at t.planes t.view t.room t.stack _ in
     let f = step_of c.in_ok-answer.ensures.does in
     let m = ap (λ (e : Slot). holds_address e a) (slot_read b s.slots _ _ c.index-self-i.result i l) ∙ answer_not _ a c.in_default.ensures in
     let new = slot_written b s.slots _ _ (Some (record { address = c.args.address; answer = w })) i in
