@@ -3,7 +3,7 @@ ghost use Rattle.std.specs.Prelude.{◌≡◌, ◌+◌, ◌≤◌, length};
 use crate::bytes::{be16, halves_at, put_halves};
 use address::kind::Address;
 use address::refusal::PrefixRefusal;
-use bits::words;
+use bits::front::Front;
 use table::calls::{Call, Reply};
 
 // How many bytes a call takes: what is asked (0 announce, 1 withdraw, 2 fetch, anything else lookup), the length or the bound, two bytes
@@ -30,7 +30,7 @@ pub fn address_at<A: Address>(s: &[u8], p: usize) -> A
 {
     let width = A::wide();
     let halves = halves_at(s, p);
-    A::from_halves(words::masked(halves, width))
+    A::from_halves(Front { bits: halves, len: width }.masked())
 }
 
 // The prefix in a call at `p`: its length in the second byte, its address from the fifth on.

@@ -15,6 +15,7 @@ ghost use Rattle.trie.specs.Well.{WellFormed};
 ghost use Rattle.trie.proofs.Planes.{plane_sound};
 
 use address::kind::Address;
+use bits::front::Front;
 use bits::halves::Halves;
 use pool::edit::{insert, remove};
 use table::calls::Refusal;
@@ -90,11 +91,15 @@ impl<'a, A: Address> Patricia<'a, A> {
         requires within { bound ≤ A.Address.width }
         ensures { as_answer A.Address.bits result ≡ answer (held (routes A.Address.width self.now.used self.now.nodes.now)) (A.Address.bits address) bound }
     {
-        match best(self.nodes, self.used, address.to_halves(), bound) {
+        let sought = Front {
+            bits: address.to_halves(),
+            len: bound,
+        };
+        match best(self.nodes, self.used, sought) {
             Some(slot) => {
                 let node = self.nodes[slot];
                 match node.hop {
-                    Some(hop) => Some((node.len, hop_in(hop))),
+                    Some(hop) => Some((node.prefix.len, hop_in(hop))),
                     None => None,
                 }
             }
@@ -106,11 +111,11 @@ impl<'a, A: Address> Patricia<'a, A> {
 // A node for the prefix, with nothing beneath it.
 fn key_of<A: Address>(prefix: A::Prefix, hop: Option<Halves>) -> Node
     ensures prefix { prefix_of result ≡ A.Address.pbits prefix }
-    ensures short { result.len ≤ 128 }
+    ensures short { result.prefix.len ≤ 128 }
     ensures hop { result.hop ≡ hop }
     ensures leaf { Leaf result }
 {
-    unlinked(A::first(prefix), A::len(prefix), hop)
+    unlinked(A::front(prefix), hop)
 }
 
 // The next hop in these halves.

@@ -15,7 +15,7 @@ use Rattle.pool.specs.declared.plan.Plan.{Plan}
 use Rattle.pool.specs.declared.plan.Plan.TheVariants.{Root, Set, Leaf, Middle, Fork}
 use Rattle.pool.specs.Plans.{Suits, wanted}
 
-module _ (ns : List Node) (u room : ℕ) (k : Node) (h : Halves) (g : Compressed ns u) (few : u ≤ room) (short : k.len ≤ 128) (hop : k.hop ≡ Some h) where
+module _ (ns : List Node) (u room : ℕ) (k : Node) (h : Halves) (g : Compressed ns u) (few : u ≤ room) (short : k.prefix.len ≤ 128) (hop : k.hop ≡ Some h) where
   some : k.hop ≡ None → ⊥
   some e = none≢some h (sym e ∙ hop)
 

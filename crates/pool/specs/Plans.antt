@@ -21,10 +21,10 @@ Meets n k c Apart = (c < n) × (c < k)
 -- the plan is how the prefix of k goes into the first u nodes, by where the search for it ends
 abbrev pub Suits : List Node → ℕ → Node → Plan → Type 0
 Suits ns u k Root = u ≡ 0
-Suits ns u k (Set e) = Found (at ns) u k e.slot e.shared × Meets (at ns e.slot).len k.len e.shared Same
-Suits ns u k (Leaf e) = Found (at ns) u k e.slot e.shared × Meets (at ns e.slot).len k.len e.shared Below
-Suits ns u k (Middle e) = Found (at ns) u k e.slot e.shared × Meets (at ns e.slot).len k.len e.shared Above
-Suits ns u k (Fork e) = Found (at ns) u k e.slot e.shared × Meets (at ns e.slot).len k.len e.shared Apart
+Suits ns u k (Set e) = Found (at ns) u k e.slot e.shared × Meets (at ns e.slot).prefix.len k.prefix.len e.shared Same
+Suits ns u k (Leaf e) = Found (at ns) u k e.slot e.shared × Meets (at ns e.slot).prefix.len k.prefix.len e.shared Below
+Suits ns u k (Middle e) = Found (at ns) u k e.slot e.shared × Meets (at ns e.slot).prefix.len k.prefix.len e.shared Above
+Suits ns u k (Fork e) = Found (at ns) u k e.slot e.shared × Meets (at ns e.slot).prefix.len k.prefix.len e.shared Apart
 
 -- the nodes that a plan takes
 abbrev pub wanted : Plan → ℕ

@@ -6,8 +6,8 @@ ghost use Rattle.pool.specs.Plans.{Suits, wanted};
 
 use crate::plan::{Plan, decide};
 use crate::release::release;
+use bits::front::Front;
 use bits::halves::Halves;
-use bits::words;
 use trie::links::{linked, unlinked};
 use trie::node::Node;
 use trie::search::{End, locate};
@@ -51,11 +51,11 @@ fn clear(ns: &mut [Node], slot: usize)
     set_hop(ns, slot, None);
 }
 
-// The branch where prefixes part that begin with the first `len` bits.
-fn branch(prefix: Halves, len: u8) -> Node
-    ensures { result ≡ fresh prefix len None }
+// The branch where prefixes part that begin with these bits.
+fn branch(prefix: Front) -> Node
+    ensures { result ≡ fresh prefix None }
 {
-    unlinked(prefix, len, None)
+    unlinked(prefix, None)
 }
 
 // Puts a branch above the node where the search ended, and the leaf beneath its other side.
@@ -64,11 +64,16 @@ fn fork(ns: &mut [Node], used: usize, end: End, leaf: Node)
     requires few { used + 1 < 65535 }
     requires slot { end.slot < used }
     requires bit { end.shared < 128 }
-    ensures { ns.new ≡ with_leaf (with_split ns.old used end.slot (node_bit (at ns.old end.slot) end.shared) (fresh leaf.prefix end.shared None)) (used + 1) end.slot (node_bit leaf end.shared) leaf }
+    ensures { ns.new ≡ with_leaf (with_split ns.old used end.slot (node_bit (at ns.old end.slot) end.shared) (fresh (record { bits = leaf.prefix.bits; len = end.shared }) None)) (used + 1) end.slot (node_bit leaf end.shared) leaf }
 {
-    let side = words::bit_at(ns[end.slot].prefix, end.shared);
-    split(ns, used, end.slot, side, branch(leaf.prefix, end.shared));
-    let other = words::bit_at(leaf.prefix, end.shared);
+    let bits = leaf.prefix.bits;
+    let side = ns[end.slot].prefix.bits.bit_at(end.shared);
+    let parting = Front {
+        bits,
+        len: end.shared,
+    };
+    split(ns, used, end.slot, side, branch(parting));
+    let other = bits.bit_at(end.shared);
     link(ns, used + 1, end.slot, other, leaf);
 }
 
@@ -77,7 +82,7 @@ fn put(ns: &mut [Node], used: usize, room: usize, key: Node, hop: Halves, plan: 
     requires trie { Compressed ns.old used }
     requires within { room ≤ length ns.old }
     requires few { room ≤ 65535 }
-    requires short { key.len ≤ 128 }
+    requires short { key.prefix.len ≤ 128 }
     requires leaf { Leaf key }
     requires some { key.hop ≡ Some hop }
     requires suits { Suits ns.old used key plan }
@@ -94,12 +99,12 @@ fn put(ns: &mut [Node], used: usize, room: usize, key: Node, hop: Halves, plan: 
             used
         }
         Plan::Leaf(end) => {
-            let side = words::bit_at(key.prefix, end.shared);
+            let side = key.prefix.bits.bit_at(end.shared);
             link(ns, used, end.slot, side, key);
             used + 1
         }
         Plan::Middle(end) => {
-            let side = words::bit_at(ns[end.slot].prefix, end.shared);
+            let side = ns[end.slot].prefix.bits.bit_at(end.shared);
             split(ns, used, end.slot, side, key);
             used + 1
         }
@@ -116,7 +121,7 @@ pub fn insert(ns: &mut [Node], used: usize, room: usize, key: Node, hop: Halves)
     requires fits { used ≤ room }
     requires within { room ≤ length ns.old }
     requires few { room ≤ 65535 }
-    requires short { key.len ≤ 128 }
+    requires short { key.prefix.len ≤ 128 }
     requires leaf { Leaf key }
     requires some { key.hop ≡ Some hop }
     ensures { Announced ns.old used room (prefix_of key) hop ns.new result }
@@ -142,7 +147,7 @@ fn take(ns: &mut [Node], used: usize, key: &Node, slot: usize) -> usize
 // Takes the route of `key` out. How many nodes are then in use, or none where it is not held.
 pub fn remove(ns: &mut [Node], used: usize, key: &Node) -> Option<usize>
     requires trie { Compressed ns.old used }
-    requires short { key.now.len ≤ 128 }
+    requires short { key.now.prefix.len ≤ 128 }
     ensures { Withdrawn ns.old used (prefix_of key.now) ns.new result }
 {
     match locate(ns, used, key) {

@@ -69,14 +69,14 @@ impl Plan {
 // How the prefix of `key` goes into the trie.
 fn suited(ns: &[Node], used: usize, key: &Node) -> Plan
     requires trie { Compressed ns.now used }
-    requires short { key.now.len ≤ 128 }
+    requires short { key.now.prefix.len ≤ 128 }
     ensures { Suits ns.now used key.now result }
 {
     if used == 0 {
         return Plan::Root;
     }
     let end = seek(ns, used, key);
-    match meet(ns[end.slot].len, key.len, end.shared) {
+    match meet(ns[end.slot].prefix.len, key.prefix.len, end.shared) {
         Meeting::Same => Plan::Set(end),
         Meeting::Below => Plan::Leaf(end),
         Meeting::Above => Plan::Middle(end),
@@ -96,7 +96,7 @@ fn has_room(used: usize, room: usize, more: usize) -> bool
 pub fn decide(ns: &[Node], used: usize, room: usize, key: &Node, hop: Halves) -> Option<Plan>
     requires trie { Compressed ns.now used }
     requires fits { used ≤ room }
-    requires short { key.now.len ≤ 128 }
+    requires short { key.now.prefix.len ≤ 128 }
     requires some { key.now.hop ≡ Some hop }
     ensures { Planned ns.now used room key.now hop result }
 {

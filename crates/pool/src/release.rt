@@ -3,7 +3,6 @@ ghost use Rattle.trie.specs.Nodes.{at, child as next};
 ghost use Rattle.trie.specs.Trie.{Trie, Leaf};
 ghost use Rattle.trie.specs.Changes.{swapped, Moved, Parent, Loose, Pruned, Unlinked};
 
-use bits::words;
 use trie::links::{child, linked};
 use trie::node::{NIL, Node};
 
@@ -22,11 +21,11 @@ fn parent(ns: &[Node], used: usize, slot: usize) -> Edge
     requires lower { 0 < slot }
     ensures { Parent ns.now used slot result.slot result.side }
 {
-    let key = ns[slot].prefix;
+    let key = ns[slot].prefix.bits;
     let mut above = 0usize;
     loop {
         let node = ns[above];
-        let side = words::bit_at(key, node.len);
+        let side = key.bit_at(node.prefix.len);
         let next = child(&node, side) as usize;
         if next == slot {
             return Edge { slot: above, side };

@@ -4,6 +4,7 @@ use Rattle.std.proofs.lemmas.Bool.{true≢false, false≢true, and_parts, and_fr
 use Rattle.std.proofs.lemmas.List.{get_or-take, ext_get_or, length-take-le}
 use Rattle.bits.specs.Bits.{Bits, covers, common}
 use Rattle.bits.specs.Halves.{word, front}
+use Rattle.bits.specs.declared.front.Front.{Front}
 use Rattle.bits.specs.declared.halves.Halves.{Halves}
 use Rattle.bits.proofs.Strings.{covers_starts, starts_covers}
 use Rattle.bits.proofs.Fronts.{word_length, front_is, front_length}
@@ -31,14 +32,14 @@ common_differs (true ∷ u) (false ∷ v) l m = true≢false
 common_differs (true ∷ u) (true ∷ v) l m = common_differs u v (le_of_suc-le-suc l) (le_of_suc-le-suc m)
 
 -- how many first bits two nodes share
-pub shared_is : (a b : Node) (c : ℕ) → a.len ≤ 128 → b.len ≤ 128 → c ≡ min (min (length (common (word a.prefix) (word b.prefix))) a.len) b.len → Shared a b c
+pub shared_is : (a b : Node) (c : ℕ) → a.prefix.len ≤ 128 → b.prefix.len ≤ 128 → c ≡ min (min (length (common (word a.prefix.bits) (word b.prefix.bits))) a.prefix.len) b.prefix.len → Shared a b c
 shared_is a b c p q e = record {
   left = omega arith;
   right = omega arith;
-  same = λ k h. common_agrees (word a.prefix) (word b.prefix) k (omega arith);
-  differ = λ l m. let z : c ≡ length (common (word a.prefix) (word b.prefix)) = omega arith in
+  same = λ k h. common_agrees (word a.prefix.bits) (word b.prefix.bits) k (omega arith);
+  differ = λ l m. let z : c ≡ length (common (word a.prefix.bits) (word b.prefix.bits)) = omega arith in
       subst (λ (n : ℕ). node_bit a n ≢ node_bit b n) (sym z)
-      (common_differs (word a.prefix) (word b.prefix) (omega (arith, word_length a.prefix)) (omega (arith, word_length b.prefix)));
+      (common_differs (word a.prefix.bits) (word b.prefix.bits) (omega (arith, word_length a.prefix.bits)) (omega (arith, word_length b.prefix.bits)));
 }
 
 -- a prefix covers an address where the bits agree
@@ -56,11 +57,11 @@ agree_covers n p a l g =
     (λ k h. ap (λ (x : Bits). get_or x k false) (front_is n p) ∙ get_or-take n (word p) k false (omega arith) ∙ g k (omega arith) ∙ sym (get_or-take (length (front n p)) (word a) k false h)))
 
 -- the test of a lookup: the node's prefix covers the address within the bound
-module _ (n : Node) (a : Halves) (b : ℕ) (t : Bool) (short : n.len ≤ 128) (is : t ≡ (leb n.len b && covers (front n.len n.prefix) (word a))) where
-  pub reached : t ≡ true → Under n (unlinked a b None)
+module _ (n : Node) (a : Front) (t : Bool) (short : n.prefix.len ≤ 128) (is : t ≡ (leb n.prefix.len a.len && covers (front n.prefix.len n.prefix.bits) (word a.bits))) where
+  pub reached : t ≡ true → Under n (unlinked a None)
   reached e =
       let r = and_parts _ _ (sym is ∙ e) in
-      record { long = leb-true _ _ r.0; same = covers_agree n.len n.prefix a short r.1 }
+      record { long = leb-true _ _ r.0; same = covers_agree n.prefix.len n.prefix.bits a.bits short r.1 }
 
-  pub not_reached : t ≡ false → Under n (unlinked a b None) → ⊥
-  not_reached e u = true≢false (sym (and_from _ _ (le-leb _ _ u.long) (agree_covers n.len n.prefix a short u.same)) ∙ sym is ∙ e)
+  pub not_reached : t ≡ false → Under n (unlinked a None) → ⊥
+  not_reached e u = true≢false (sym (and_from _ _ (le-leb _ _ u.long) (agree_covers n.prefix.len n.prefix.bits a.bits short u.same)) ∙ sym is ∙ e)

@@ -14,22 +14,22 @@ use Rattle.trie.specs.Nodes.{at, node_bit, key, blank, with_route, collected, ho
 use Rattle.trie.specs.Trie.{Agree, Trie, Beyond, Under}
 use Rattle.trie.specs.Search.{Found}
 
-pub key_length : (n : Node) → n.len ≤ 128 → length (key n) ≡ n.len
+pub key_length : (n : Node) → n.prefix.len ≤ 128 → length (key n) ≡ n.prefix.len
 unfolding key
-key_length n h = front_length n.len n.prefix h
+key_length n h = front_length n.prefix.len n.prefix.bits h
 
-pub key_at : (n : Node) (k : ℕ) → n.len ≤ 128 → k < n.len → get_or (key n) k false ≡ node_bit n k
+pub key_at : (n : Node) (k : ℕ) → n.prefix.len ≤ 128 → k < n.prefix.len → get_or (key n) k false ≡ node_bit n k
 unfolding key
-key_at n k s h = ap (λ (l : Bits). get_or l k false) (front_is n.len n.prefix) ∙ get_or-take n.len (word n.prefix) k false h
+key_at n k s h = ap (λ (l : Bits). get_or l k false) (front_is n.prefix.len n.prefix.bits) ∙ get_or-take n.prefix.len (word n.prefix.bits) k false h
 
-pub key_same : (a b : Node) → a.len ≤ 128 → a.len ≡ b.len → Agree a.len (node_bit a) (node_bit b) → key a ≡ key b
+pub key_same : (a b : Node) → a.prefix.len ≤ 128 → a.prefix.len ≡ b.prefix.len → Agree a.prefix.len (node_bit a) (node_bit b) → key a ≡ key b
 key_same a b s e g = ext_get_or false (key a) (key b) (key_length a s ∙ e ∙ sym (key_length b (omega arith)))
-    (λ k h. let l : k < a.len = omega (arith, key_length a s) in key_at a k s l ∙ g k l ∙ sym (key_at b k (omega arith) (omega arith)))
+    (λ k h. let l : k < a.prefix.len = omega (arith, key_length a s) in key_at a k s l ∙ g k l ∙ sym (key_at b k (omega arith) (omega arith)))
 
-pub key_size : (a b : Node) → a.len ≤ 128 → b.len ≤ 128 → key a ≡ key b → a.len ≡ b.len
+pub key_size : (a b : Node) → a.prefix.len ≤ 128 → b.prefix.len ≤ 128 → key a ≡ key b → a.prefix.len ≡ b.prefix.len
 key_size a b p q e = sym (key_length a p) ∙ ap length e ∙ key_length b q
 
-pub key_agree : (a b : Node) → a.len ≤ 128 → b.len ≤ 128 → key a ≡ key b → Agree a.len (node_bit a) (node_bit b)
+pub key_agree : (a b : Node) → a.prefix.len ≤ 128 → b.prefix.len ≤ 128 → key a ≡ key b → Agree a.prefix.len (node_bit a) (node_bit b)
 key_agree a b p q e k h = sym (key_at a k p h) ∙ ap (λ (l : List Bool). get_or l k false) e ∙ key_at b k q (omega (arith, key_size a b p q e))
 
 -- the test of two prefixes
@@ -96,23 +96,23 @@ pub only : (f : ℕ → Node) (used : ℕ) → Trie f used → (p : List Bool) (
 only f used t p i j hi hj ei ej = t.apart j i hj hi (key_size (f j) (f i) (t.short j hj) (t.short i hi) (ej ∙ sym ei)) (key_agree (f j) (f i) (t.short j hj) (t.short i hi) (ej ∙ sym ei))
 
 -- a search that does not end at the key's own slot: no slot has the key
-pub found_none : (f : ℕ → Node) (used : ℕ) → Trie f used → (n : Node) (i c : ℕ) → n.len ≤ 128 → Found f used n i c → ((c ≡ (f i).len) × (c ≡ n.len) → ⊥) → (j : ℕ) → j < used → key (f j) ≡ key n → ⊥
-found_none f used t n i c short r ne j l e = go (cases_lt c (f i).len) (cases_lt c n.len)
+pub found_none : (f : ℕ → Node) (used : ℕ) → Trie f used → (n : Node) (i c : ℕ) → n.prefix.len ≤ 128 → Found f used n i c → ((c ≡ (f i).prefix.len) × (c ≡ n.prefix.len) → ⊥) → (j : ℕ) → j < used → key (f j) ≡ key n → ⊥
+found_none f used t n i c short r ne j l e = go (cases_lt c (f i).prefix.len) (cases_lt c n.prefix.len)
   where
-    size : (f j).len ≡ n.len
+    size : (f j).prefix.len ≡ n.prefix.len
     size = key_size (f j) n (t.short j l) short e
 
-    agree : Agree (f j).len (node_bit (f j)) (node_bit n)
+    agree : Agree (f j).prefix.len (node_bit (f j)) (node_bit n)
     agree = key_agree (f j) n (t.short j l) short e
 
     under : Under (f i) (f j)
     under = r.below j l (omega (arith, r.shared.right, size)) (λ k h. agree k (omega (arith, r.shared.right, size)))
 
-    go : (c < (f i).len) ⊎ ((f i).len ≤ c) → (c < n.len) ⊎ (n.len ≤ c) → ⊥
+    go : (c < (f i).prefix.len) ⊎ ((f i).prefix.len ≤ c) → (c < n.prefix.len) ⊎ (n.prefix.len ≤ c) → ⊥
     go (inl a) (inl b) = r.shared.differ a b (under.same c a ∙ agree c (omega (arith, size)))
     go (inl a) (inr b) = omega (arith, under.long, size, r.shared.right)
     go (inr a) (inr b) = ne (omega (arith, r.shared.left), omega (arith, r.shared.right))
     go (inr a) (inl b) =
-        let z : c ≡ (f i).len = omega (arith, r.shared.left) in
+        let z : c ≡ (f i).prefix.len = omega (arith, r.shared.left) in
         let y : Beyond (node_bit n c) (f i) (f j) = record { long = omega (arith, size); same = under.same; side = subst (λ (m : ℕ). node_bit (f j) m ≡ node_bit n c) z (agree c (omega (arith, size))) } in
         omega (arith, (t.full (node_bit n c) i j r.slot l y).0, r.stop z b, t.few)

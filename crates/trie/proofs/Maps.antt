@@ -79,9 +79,9 @@ module _ (ns : List Node) (u i : ℕ) (h : Option Halves) (iu : i < u) (ul : u �
   ]
 
   -- all but the hop is as it was
-  hop_kept : (R : ℕ → (ℕ → Bool) → (Bool → ℕ) → Type 0) (j : ℕ) → R (at ns j).len (node_bit (at ns j)) (λ s. child s (at ns j)) → R (hops j).len (node_bit (hops j)) (λ s. child s (hops j))
+  hop_kept : (R : ℕ → (ℕ → Bool) → (Bool → ℕ) → Type 0) (j : ℕ) → R (at ns j).prefix.len (node_bit (at ns j)) (λ s. child s (at ns j)) → R (hops j).prefix.len (node_bit (hops j)) (λ s. child s (hops j))
   unfolding hops
-  hop_kept R = hop_each (λ (j : ℕ) (n : Node). R (at ns j).len (node_bit (at ns j)) (λ s. child s (at ns j)) → R n.len (node_bit n) (λ s. child s n)) (λ r. r) (λ j ni r. r)
+  hop_kept R = hop_each (λ (j : ℕ) (n : Node). R (at ns j).prefix.len (node_bit (at ns j)) (λ s. child s (at ns j)) → R n.prefix.len (node_bit n) (λ s. child s n)) (λ r. r) (λ j ni r. r)
 
   strip : Node → Node
   strip n = with_hop n None

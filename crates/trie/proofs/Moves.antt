@@ -13,14 +13,14 @@ use Rattle.trie.proofs.Maps.{same_holds}
 pub record Step (f : ℕ → Node) (u i c k : ℕ) : Type 0 where
   pub slot : k < u
   pub under : Under (f k) (f c)
-  pub longer : (f i).len < (f k).len
+  pub longer : (f i).prefix.len < (f k).prefix.len
 
-pub down_len : (f : ℕ → Node) (u : ℕ) → Trie f u → (i c : ℕ) → i < u → c < u → i ≢ c → Under (f i) (f c) → (f i).len < (f c).len
-down_len f u t i c hi hc n r = elim (cases_lt (f i).len (f c).len) [ inl l ↦ l | inr l ↦ absurd (n (t.apart i c hi hc (omega (arith, r.long)) r.same)) ]
+pub down_len : (f : ℕ → Node) (u : ℕ) → Trie f u → (i c : ℕ) → i < u → c < u → i ≢ c → Under (f i) (f c) → (f i).prefix.len < (f c).prefix.len
+down_len f u t i c hi hc n r = elim (cases_lt (f i).prefix.len (f c).prefix.len) [ inl l ↦ l | inr l ↦ absurd (n (t.apart i c hi hc (omega (arith, r.long)) r.same)) ]
 
-pub down : (f : ℕ → Node) (u : ℕ) → Trie f u → (i c k : ℕ) (s : Bool) → i < u → c < u → i ≢ c → Under (f i) (f c) → s ≡ node_bit (f c) (f i).len → k ≡ child s (f i) → Step f u i c k
+pub down : (f : ℕ → Node) (u : ℕ) → Trie f u → (i c k : ℕ) (s : Bool) → i < u → c < u → i ≢ c → Under (f i) (f c) → s ≡ node_bit (f c) (f i).prefix.len → k ≡ child s (f i) → Step f u i c k
 down f u t i c k s hi hc n r e q =
-    let l : (f i).len < (f c).len = down_len f u t i c hi hc n r in
+    let l : (f i).prefix.len < (f c).prefix.len = down_len f u t i c hi hc n r in
     let w : (child s (f i) < u) × Under (f (child s (f i))) (f c) = t.full s i c hi hc (record { long = l; same = r.same; side = sym e }) in
     let b : Beyond s (f i) (f (child s (f i))) = (t.kid s i hi (λ z. lt_irrefl 65535 (omega (arith, w.0, z, t.few)))).1 in
     subst (λ (m : ℕ). Step f u i c m) (sym q) (record { slot = w.0; under = w.1; longer = b.long })
@@ -136,7 +136,7 @@ module _ (ns ms : List Node) (u h l : ℕ) (m : Moved ns ms u h l) (t : Trie (at
 
   pub moved_trie : Trie (at ms) u
   moved_trie = renamed (at ns) (at ms) u t (swapped h l) (swapped_back h l) (λ j. swapped_in h l u j hu lu) (swapped_o h l 0 (omega arith) (omega arith)) moved_nil
-      (λ j hj. ap (λ (n : Node). n.len) (m.nodes j hj)) (λ j hj. ap (λ (n : Node). node_bit n) (m.nodes j hj)) m.links
+      (λ j hj. ap (λ (n : Node). n.prefix.len) (m.nodes j hj)) (λ j hj. ap (λ (n : Node). node_bit n) (m.nodes j hj)) m.links
 
   pub moved_in : u ≤ length ms
   moved_in = omega (arith, m.long)

@@ -19,7 +19,7 @@ pub beyond_further : (s : Bool) (a b c : Node) → Beyond s a b → Under b c �
 beyond_further s a b c p q = record {
   long = omega (arith, p.long, q.long);
   same = λ k h. p.same k h ∙ q.same k (omega (arith, p.long));
-  side = sym (q.same a.len p.long) ∙ p.side;
+  side = sym (q.same a.prefix.len p.long) ∙ p.side;
 }
 
 module _ (f : ℕ → Node) (used : ℕ) (t : Trie f used) (key : Node) where
@@ -33,7 +33,7 @@ module _ (f : ℕ → Node) (used : ℕ) (t : Trie f used) (key : Node) where
     below = λ j p q a. t.top j p;
   }
 
-  pub way_found : (i d c : ℕ) → Way f used key i d → Shared (f i) key c → (c ≡ (f i).len → c < key.len → child (node_bit key c) (f i) ≡ 65535) → Found f used key i c
+  pub way_found : (i d c : ℕ) → Way f used key i d → Shared (f i) key c → (c ≡ (f i).prefix.len → c < key.prefix.len → child (node_bit key c) (f i) ≡ 65535) → Found f used key i c
   way_found i d c w s e = record {
     slot = w.slot;
     shared = s;
@@ -46,41 +46,41 @@ module _ (f : ℕ → Node) (used : ℕ) (t : Trie f used) (key : Node) where
       reach = elim (cases_lt c d) [ inl l ↦ absurd (s.differ (omega (arith, w.near)) (omega (arith, w.far)) (w.same c l)) | inr l ↦ l ]
 
   -- one step down, from slot i to its child on the key's side
-  pub way_step : (i d : ℕ) → Way f used key i d → Agree (f i).len (node_bit (f i)) (node_bit key) → (f i).len < key.len → child (node_bit key (f i).len) (f i) ≢ 65535
-      → (Way f used key (child (node_bit key (f i).len) (f i)) (suc (f i).len)) × ((f i).len < (f (child (node_bit key (f i).len) (f i))).len)
+  pub way_step : (i d : ℕ) → Way f used key i d → Agree (f i).prefix.len (node_bit (f i)) (node_bit key) → (f i).prefix.len < key.prefix.len → child (node_bit key (f i).prefix.len) (f i) ≢ 65535
+      → (Way f used key (child (node_bit key (f i).prefix.len) (f i)) (suc (f i).prefix.len)) × ((f i).prefix.len < (f (child (node_bit key (f i).prefix.len) (f i))).prefix.len)
   way_step i d w a l ne = (way, k.1.long)
     where
       s : Bool
-      s = node_bit key (f i).len
+      s = node_bit key (f i).prefix.len
 
-      k : (child (node_bit key (f i).len) (f i) < used) × Beyond (node_bit key (f i).len) (f i) (f (child (node_bit key (f i).len) (f i)))
-      k = t.kid (node_bit key (f i).len) i w.slot ne
+      k : (child (node_bit key (f i).prefix.len) (f i) < used) × Beyond (node_bit key (f i).prefix.len) (f i) (f (child (node_bit key (f i).prefix.len) (f i)))
+      k = t.kid (node_bit key (f i).prefix.len) i w.slot ne
 
-      last : (n : Node) → Agree (f i).len (node_bit n) (node_bit key) → node_bit n (f i).len ≡ node_bit key (f i).len → Agree (suc (f i).len) (node_bit n) (node_bit key)
-      last n b e j h = elim (cases_lt j (f i).len) [ inl q ↦ b j q | inr q ↦ (let z : j ≡ (f i).len = omega arith in subst (λ (m : ℕ). node_bit n m ≡ node_bit key m) (sym z) e) ]
+      last : (n : Node) → Agree (f i).prefix.len (node_bit n) (node_bit key) → node_bit n (f i).prefix.len ≡ node_bit key (f i).prefix.len → Agree (suc (f i).prefix.len) (node_bit n) (node_bit key)
+      last n b e j h = elim (cases_lt j (f i).prefix.len) [ inl q ↦ b j q | inr q ↦ (let z : j ≡ (f i).prefix.len = omega arith in subst (λ (m : ℕ). node_bit n m ≡ node_bit key m) (sym z) e) ]
 
-      beneath : (j : ℕ) → suc (f i).len ≤ (f j).len → Agree (suc (f i).len) (node_bit (f j)) (node_bit key) → Beyond (node_bit key (f i).len) (f i) (f j)
-      beneath j p b = record { long = p; same = λ m h. a m h ∙ sym (b m (omega arith)); side = b (f i).len (le_refl _) }
+      beneath : (j : ℕ) → suc (f i).prefix.len ≤ (f j).prefix.len → Agree (suc (f i).prefix.len) (node_bit (f j)) (node_bit key) → Beyond (node_bit key (f i).prefix.len) (f i) (f j)
+      beneath j p b = record { long = p; same = λ m h. a m h ∙ sym (b m (omega arith)); side = b (f i).prefix.len (le_refl _) }
 
-      way : Way f used key (child (node_bit key (f i).len) (f i)) (suc (f i).len)
+      way : Way f used key (child (node_bit key (f i).prefix.len) (f i)) (suc (f i).prefix.len)
       way = record {
         slot = k.0;
         near = k.1.long;
         far = l;
-        same = last (f (child (node_bit key (f i).len) (f i))) (λ m h. sym (k.1.same m h) ∙ a m h) k.1.side;
-        above = λ j p q b. elim (cases_lt (f i).len (f j).len) [ inl z ↦ absurd (not_lower j p q b z) | inr z ↦ omega arith ];
-        below = λ j p q b. (t.full (node_bit key (f i).len) i j w.slot p (beneath j q b)).1;
+        same = last (f (child (node_bit key (f i).prefix.len) (f i))) (λ m h. sym (k.1.same m h) ∙ a m h) k.1.side;
+        above = λ j p q b. elim (cases_lt (f i).prefix.len (f j).prefix.len) [ inl z ↦ absurd (not_lower j p q b z) | inr z ↦ omega arith ];
+        below = λ j p q b. (t.full (node_bit key (f i).prefix.len) i j w.slot p (beneath j q b)).1;
       }
         where
-          not_lower : (j : ℕ) → j < used → (f j).len < (f (child (node_bit key (f i).len) (f i))).len → Agree (f j).len (node_bit (f j)) (node_bit (f (child (node_bit key (f i).len) (f i)))) → (f i).len < (f j).len → ⊥
+          not_lower : (j : ℕ) → j < used → (f j).prefix.len < (f (child (node_bit key (f i).prefix.len) (f i))).prefix.len → Agree (f j).prefix.len (node_bit (f j)) (node_bit (f (child (node_bit key (f i).prefix.len) (f i)))) → (f i).prefix.len < (f j).prefix.len → ⊥
           not_lower j p q b z =
-              let y : Beyond (node_bit key (f i).len) (f i) (f j) = record { long = z; same = λ m h. k.1.same m h ∙ sym (b m (omega arith)); side = b (f i).len z ∙ k.1.side } in
-              omega (arith, (t.full (node_bit key (f i).len) i j w.slot p y).1.long)
+              let y : Beyond (node_bit key (f i).prefix.len) (f i) (f j) = record { long = z; same = λ m h. k.1.same m h ∙ sym (b m (omega arith)); side = b (f i).prefix.len z ∙ k.1.side } in
+              omega (arith, (t.full (node_bit key (f i).prefix.len) i j w.slot p y).1.long)
 
-  pub way_next : (i d c k : ℕ) → Way f used key i d → Shared (f i) key c → (f i).len ≤ c → c < key.len → k ≡ child (node_bit key c) (f i) → k ≢ 65535
-      → (Way f used key k (suc (f i).len)) × ((f i).len < (f k).len)
+  pub way_next : (i d c k : ℕ) → Way f used key i d → Shared (f i) key c → (f i).prefix.len ≤ c → c < key.prefix.len → k ≡ child (node_bit key c) (f i) → k ≢ 65535
+      → (Way f used key k (suc (f i).prefix.len)) × ((f i).prefix.len < (f k).prefix.len)
   way_next i d c k w s g l q ne =
-      let e : c ≡ (f i).len = omega (arith, s.left) in
-      let z : k ≡ child (node_bit key (f i).len) (f i) = q ∙ ap (λ (m : ℕ). child (node_bit key m) (f i)) e in
-      subst (λ (n : ℕ). (Way f used key n (suc (f i).len)) × ((f i).len < (f n).len)) (sym z)
+      let e : c ≡ (f i).prefix.len = omega (arith, s.left) in
+      let z : k ≡ child (node_bit key (f i).prefix.len) (f i) = q ∙ ap (λ (m : ℕ). child (node_bit key m) (f i)) e in
+      subst (λ (n : ℕ). (Way f used key n (suc (f i).prefix.len)) × ((f i).prefix.len < (f n).prefix.len)) (sym z)
       (way_step i d w (λ m h. s.same m (omega arith)) (omega arith) (λ y. ne (z ∙ y)))

@@ -43,7 +43,7 @@ placed : (ns : List Node) (u room : ℕ) (k : Node) (ms : List Node) (v : ℕ) �
 placed ns u room k ms v g f m = record { good = g; fits = f; map = m }
 
 -- the first node of all
-module _ (ns : List Node) (room : ℕ) (g : Compressed ns 0) (k : Node) (short : k.len ≤ 128) (leaf : Leaf k) (some : k.hop ≡ None → ⊥) (l : 0 < length ns) (rl : 0 < room) where
+module _ (ns : List Node) (room : ℕ) (g : Compressed ns 0) (k : Node) (short : k.prefix.len ≤ 128) (leaf : Leaf k) (some : k.hop ≡ None → ⊥) (l : 0 < length ns) (rl : 0 < room) where
   first : at (set ns 0 k) 0 ≡ k
   first = get_or-set_same ns 0 k blank l
 
@@ -53,10 +53,10 @@ module _ (ns : List Node) (room : ℕ) (g : Compressed ns 0) (k : Node) (short :
   first_trie : Trie (at (set ns 0 k)) 1
   first_trie = record {
     few = lit≤ tt;
-    short = single (λ j n. n.len ≤ 128) short;
+    short = single (λ j n. n.prefix.len ≤ 128) short;
     top = single (λ j n. Under (at (set ns 0 k) 0) n) (subst (λ (n : Node). Under n k) (sym first) (under_refl k));
     kid = λ b. single (λ j n. child b n ≢ 65535 → (child b n < 1) × Beyond b n (at (set ns 0 k) (child b n))) (λ ne. absurd (ne (leaf_child b k leaf)));
-    full = λ b i j hi hj r. let e : i ≡ j = omega arith in absurd (lt_irrefl _ (subst (λ (n : ℕ). (at (set ns 0 k) i).len < (at (set ns 0 k) n).len) (sym e) r.long));
+    full = λ b i j hi hj r. let e : i ≡ j = omega arith in absurd (lt_irrefl _ (subst (λ (n : ℕ). (at (set ns 0 k) i).prefix.len < (at (set ns 0 k) n).prefix.len) (sym e) r.long));
     apart = λ i j hi hj e a. omega arith;
   }
 
@@ -67,8 +67,8 @@ module _ (ns : List Node) (room : ℕ) (g : Compressed ns 0) (k : Node) (short :
       (regrown ns (set ns 0 k) 0 1 (omega arith) (rw length-set l) g.trie first_trie (key k) k.hop 0 (le_refl _) (ap key first) (ap (λ (n : Node). n.hop) first)
       (λ j h. absurd (not-suc-le-zero h)) (single (λ j n. (key n ≡ key k → ⊥) → (i : ℕ) × (i < 0) × (key (at ns i) ≡ key n)) (λ ne. absurd (ne refl))))
 
-module _ (ns : List Node) (u room : ℕ) (g : Compressed ns u) (fits : u ≤ room) (k : Node) (short : k.len ≤ 128) (leaf : Leaf k) (some : k.hop ≡ None → ⊥) (i c : ℕ) (r : Found (at ns) u k i c) where
-  pub way_exact : c ≡ (at ns i).len → c ≡ k.len → Placed ns u room k (set ns i (with_hop (at ns i) k.hop)) u
+module _ (ns : List Node) (u room : ℕ) (g : Compressed ns u) (fits : u ≤ room) (k : Node) (short : k.prefix.len ≤ 128) (leaf : Leaf k) (some : k.hop ≡ None → ⊥) (i c : ℕ) (r : Found (at ns) u k i c) where
+  pub way_exact : c ≡ (at ns i).prefix.len → c ≡ k.prefix.len → Placed ns u room k (set ns i (with_hop (at ns i) k.hop)) u
   way_exact e f = placed _ _ _ _ _ _
       (record {
         within = rw length-set g.within;
@@ -78,7 +78,7 @@ module _ (ns : List Node) (u room : ℕ) (g : Compressed ns u) (fits : u ≤ roo
       fits
       (hop_holds ns u i k.hop r.slot g.within g.trie ∙ ap (λ (p : List Bool). altered (holds ns u) p k.hop) (key_same (at ns i) k (g.trie.short i r.slot) (sym e ∙ f) (λ m h. r.shared.same m (omega arith))))
 
-  pub way_leaf : u < room → room ≤ length ns → room ≤ 65535 → c ≡ (at ns i).len → c < k.len → Placed ns u room k (with_leaf ns u i (node_bit k c) k) (suc u)
+  pub way_leaf : u < room → room ≤ length ns → room ≤ 65535 → c ≡ (at ns i).prefix.len → c < k.prefix.len → Placed ns u room k (with_leaf ns u i (node_bit k c) k) (suc u)
   way_leaf ur rl rf e l = placed _ _ _ _ _ _
       (record {
         within = rw (length-set, length-set) (omega arith);
@@ -92,7 +92,7 @@ module _ (ns : List Node) (u room : ℕ) (g : Compressed ns u) (fits : u ≤ roo
       trie = linked_trie ns u i (node_bit k c) k r.slot (omega arith) (omega arith) g.trie leaf short (r.stop e l)
           (record { long = omega arith; same = λ m h. r.shared.same m (omega arith); side = ap (node_bit k) (sym e) })
 
-  pub way_above : u < room → room ≤ length ns → room ≤ 65535 → c < (at ns i).len → c ≡ k.len → Placed ns u room k (with_split ns u i (node_bit (at ns i) c) k) (suc u)
+  pub way_above : u < room → room ≤ length ns → room ≤ 65535 → c < (at ns i).prefix.len → c ≡ k.prefix.len → Placed ns u room k (with_split ns u i (node_bit (at ns i) c) k) (suc u)
   unfolding after
   way_above ur rl rf l e = placed _ _ _ _ _ _
       (record {
@@ -112,9 +112,9 @@ module _ (ns : List Node) (u room : ℕ) (g : Compressed ns u) (fits : u ≤ roo
 
   -- the branch above slot i and the new leaf
   abbrev pub branch : Node
-  branch = record { prefix = k.prefix; len = c; hop = None; left = 65535; right = 65535 }
+  branch = record { prefix = record { bits = k.prefix.bits; len = c }; hop = None; left = 65535; right = 65535 }
 
-  pub way_fork : suc u < room → room ≤ length ns → room ≤ 65535 → c < (at ns i).len → c < k.len → Placed ns u room k (with_leaf (with_split ns u i (node_bit (at ns i) c) branch) (suc u) i (node_bit k c) k) (suc (suc u))
+  pub way_fork : suc u < room → room ≤ length ns → room ≤ 65535 → c < (at ns i).prefix.len → c < k.prefix.len → Placed ns u room k (with_leaf (with_split ns u i (node_bit (at ns i) c) branch) (suc u) i (node_bit k c) k) (suc (suc u))
   unfolding after
   way_fork ur rl rf l m = placed _ _ _ _ _ _
       (record {
@@ -160,8 +160,8 @@ module _ (ns : List Node) (u room : ℕ) (g : Compressed ns u) (fits : u ≤ roo
 
       none : (j : ℕ) → j < u → key (at ns j) ≡ key branch → ⊥
       none j h e =
-          let size : (at ns j).len ≡ c = key_size (at ns j) branch (g.trie.short j h) (omega arith) e in
-          let a : Agree (at ns j).len (node_bit (at ns j)) (node_bit k) = key_agree (at ns j) branch (g.trie.short j h) (omega arith) e in
+          let size : (at ns j).prefix.len ≡ c = key_size (at ns j) branch (g.trie.short j h) (omega arith) e in
+          let a : Agree (at ns j).prefix.len (node_bit (at ns j)) (node_bit k) = key_agree (at ns j) branch (g.trie.short j h) (omega arith) e in
           omega (arith, (r.below j h (omega arith) (λ m q. a m (omega arith))).long)
 
 pub placed_at : (ns : List Node) (u room : ℕ) (k : Node) (ms ms' : List Node) (v v' : ℕ) → ms ≡ ms' → v ≡ v' → Placed ns u room k ms' v' → Placed ns u room k ms v

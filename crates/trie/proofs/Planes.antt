@@ -6,6 +6,7 @@ use Rattle.std.proofs.lemmas.List.{length-map}
 use Rattle.std.proofs.lemmas.Bool.{le-leb}
 use Rattle.bits.specs.Bits.{Bits, covers, common}
 use Rattle.bits.specs.Halves.{word, front}
+use Rattle.bits.specs.declared.front.Front.{Front}
 use Rattle.bits.specs.declared.halves.Halves.{Halves}
 use Rattle.bits.proofs.Fronts.{front_is, covers_front}
 use Rattle.model.specs.Maps.{Map, held, put, removed}
@@ -146,19 +147,19 @@ module _ (w u : ℕ) (ns : List Node) (good : WellFormed w u ns) where
       (withdraw_absent (nodes_room (length ns)) (routes w u ns) p (plane_holds p ∙ ap (made (front w)) x.1)))
 
   -- the answer of a lookup, by the longest route that covers the address
-  module _ (a : Halves) (b : ℕ) (narrow : w ≤ 128) (bound : b ≤ w) where
-    short : (i : ℕ) → i < u → (at ns i).len ≤ 128
+  module _ (a : Front) (narrow : w ≤ 128) (bound : a.len ≤ w) where
+    short : (i : ℕ) → i < u → (at ns i).prefix.len ≤ 128
     short i l = good.trie.trie.short i l
 
-    key_covers : (i : ℕ) → i < u → (at ns i).len ≤ b → covers (key (at ns i)) (front w a) ≡ covers (front (at ns i).len (at ns i).prefix) (word a)
+    key_covers : (i : ℕ) → i < u → (at ns i).prefix.len ≤ a.len → covers (key (at ns i)) (front w a.bits) ≡ covers (front (at ns i).prefix.len (at ns i).prefix.bits) (word a.bits)
     unfolding key
-    key_covers i l h = ap (covers (key (at ns i))) (front_is w a) ∙ covers_front (at ns i).len w (at ns i).prefix (word a) (omega arith) (short i l)
+    key_covers i l h = ap (covers (key (at ns i))) (front_is w a.bits) ∙ covers_front (at ns i).prefix.len w (at ns i).prefix.bits (word a.bits) (omega arith) (short i l)
 
-    under_covers : (i : ℕ) → i < u → Under (at ns i) (unlinked a b None) → covers (key (at ns i)) (front w a) ≡ true
-    under_covers i l v = key_covers i l v.long ∙ agree_covers (at ns i).len (at ns i).prefix a (short i l) v.same
+    under_covers : (i : ℕ) → i < u → Under (at ns i) (unlinked a None) → covers (key (at ns i)) (front w a.bits) ≡ true
+    under_covers i l v = key_covers i l v.long ∙ agree_covers (at ns i).prefix.len (at ns i).prefix.bits a.bits (short i l) v.same
 
-    covers_under : (i : ℕ) → i < u → (at ns i).len ≤ b → covers (key (at ns i)) (front w a) ≡ true → Under (at ns i) (unlinked a b None)
-    covers_under i l h e = record { long = h; same = covers_agree (at ns i).len (at ns i).prefix a (short i l) (sym (key_covers i l h) ∙ e) }
+    covers_under : (i : ℕ) → i < u → (at ns i).prefix.len ≤ a.len → covers (key (at ns i)) (front w a.bits) ≡ true → Under (at ns i) (unlinked a None)
+    covers_under i l h e = record { long = h; same = covers_agree (at ns i).prefix.len (at ns i).prefix.bits a.bits (short i l) (sym (key_covers i l h) ∙ e) }
 
     -- a candidate is the prefix of a slot with a route that covers the address
     pub record SlotOf (q : Bits) : Type 0 where
@@ -166,28 +167,28 @@ module _ (w u : ℕ) (ns : List Node) (good : WellFormed w u ns) where
       pub used : slot < u
       pub prefix : key (at ns slot) ≡ q
       pub routed : (at ns slot).hop ≡ None → ⊥
-      pub under : Under (at ns slot) (unlinked a b None)
+      pub under : Under (at ns slot) (unlinked a None)
 
-    candidate_slot : (q : Bits) → Candidate (held (routes w u ns)) (front w a) b q → SlotOf q
+    candidate_slot : (q : Bits) → Candidate (held (routes w u ns)) (front w a.bits) a.len q → SlotOf q
     candidate_slot q c =
         let r = route_slot ns u good.trie q (λ e. c.visible (plane_holds q ∙ ap (made (front w)) e)) in
-        let long : (at ns r.0).len ≤ b = omega (arith, c.within, sym (key_length (at ns r.0) (short r.0 r.1)) ∙ ap length r.2) in
+        let long : (at ns r.0).prefix.len ≤ a.len = omega (arith, c.within, sym (key_length (at ns r.0) (short r.0 r.1)) ∙ ap length r.2) in
         record {
           slot = r.0;
           used = r.1;
           prefix = r.2;
           routed = λ e. c.visible (ap (held (routes w u ns)) (sym r.2) ∙ plane_holds (key (at ns r.0)) ∙ ap (made (front w)) (slot_holds ns u good.trie r.0 r.1 ∙ e));
-          under = covers_under r.0 r.1 long (ap (λ (s : Bits). covers s (front w a)) r.2 ∙ c.covering);
+          under = covers_under r.0 r.1 long (ap (λ (s : Bits). covers s (front w a.bits)) r.2 ∙ c.covering);
         }
 
-    wide : b ≤ length (front w a)
-    wide = omega (arith, Rattle.bits.proofs.Fronts.front_length w a narrow)
+    wide : a.len ≤ length (front w a.bits)
+    wide = omega (arith, Rattle.bits.proofs.Fronts.front_length w a.bits narrow)
 
-    pub found_is : (i : ℕ) (h : Halves) → (at ns i).hop ≡ Some h → Best (at ns) u (unlinked a b None) (Some i) → Some ((at ns i).len, front w h) ≡ answer (held (routes w u ns)) (front w a) b
+    pub found_is : (i : ℕ) (h : Halves) → (at ns i).hop ≡ Some h → Best (at ns) u (unlinked a None) (Some i) → Some ((at ns i).prefix.len, front w h) ≡ answer (held (routes w u ns)) (front w a.bits) a.len
     found_is i h e x =
         let value : held (routes w u ns) (key (at ns i)) ≡ Some (front w h) = plane_holds (key (at ns i)) ∙ ap (made (front w)) (slot_holds ns u good.trie i x.covering.0 ∙ e) in
-        let long : length (key (at ns i)) ≡ (at ns i).len = key_length (at ns i) (short i x.covering.0) in
-        (longest_laws Hop).only_answer (held (routes w u ns)) (front w a) b (Some ((at ns i).len, front w h)) wide (record {
+        let long : length (key (at ns i)) ≡ (at ns i).prefix.len = key_length (at ns i) (short i x.covering.0) in
+        (longest_laws Hop).only_answer (held (routes w u ns)) (front w a.bits) a.len (Some ((at ns i).prefix.len, front w h)) wide (record {
           prefix = key (at ns i);
           candidate = record { visible = λ f. none≢some (front w h) (sym f ∙ value); covering = under_covers i x.covering.0 x.covering.1; within = omega (arith, long, x.covering.1.long) };
           long = long;
@@ -196,8 +197,8 @@ module _ (w u : ℕ) (ns : List Node) (good : WellFormed w u ns) where
               omega (arith, x.longest r.slot r.used r.under r.routed, sym (key_length (at ns r.slot) (short r.slot r.used)) ∙ ap length r.prefix);
         })
 
-    pub none_is : Best (at ns) u (unlinked a b None) None → None ≡ answer (held (routes w u ns)) (front w a) b
-    none_is x = (longest_laws Hop).only_answer (held (routes w u ns)) (front w a) b None wide
+    pub none_is : Best (at ns) u (unlinked a None) None → None ≡ answer (held (routes w u ns)) (front w a.bits) a.len
+    none_is x = (longest_laws Hop).only_answer (held (routes w u ns)) (front w a.bits) a.len None wide
         (λ q c. let r : SlotOf q = candidate_slot q c in x.longest r.slot r.used r.under r.routed)
 
 pub node_laws : NodeLaws

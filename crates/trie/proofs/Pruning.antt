@@ -25,10 +25,10 @@ module _ (ns ms : List Node) (u i k : ℕ) (s : Bool) (lo : Loose ns u i) (iu : 
   kid_k = subst (λ (c : ℕ). (c < u) × Beyond s (at ns i) (at ns c)) (sym ek) (lo.trie.kid s i iu one)
 
   k_i : k ≢ i
-  k_i e = lt_irrefl (at ns i).len (subst (λ (c : ℕ). (at ns i).len < (at ns c).len) e kid_k.1.long)
+  k_i e = lt_irrefl (at ns i).prefix.len (subst (λ (c : ℕ). (at ns i).prefix.len < (at ns c).prefix.len) e kid_k.1.long)
 
   k_0 : 0 < k
-  k_0 = elim (cases_eq k 0) [ inl e ↦ absurd (lt_irrefl (at ns i).len (omega (arith, subst (λ (c : ℕ). (at ns i).len < (at ns c).len) e kid_k.1.long, (lo.trie.top i iu).long))) | inr n ↦ omega arith ]
+  k_0 = elim (cases_eq k 0) [ inl e ↦ absurd (lt_irrefl (at ns i).prefix.len (omega (arith, subst (λ (c : ℕ). (at ns i).prefix.len < (at ns c).prefix.len) e kid_k.1.long, (lo.trie.top i iu).long))) | inr n ↦ omega arith ]
 
   v_0 : 0 < v
   v_0 = omega (arith, kid_k.0, k_i, iu)
@@ -78,7 +78,7 @@ module _ (ns ms : List Node) (u i k : ℕ) (s : Bool) (lo : Loose ns u i) (iu : 
   t2 = pulled (at ms) (at ms2) v i2 s (subst (Trie (at ms)) suc_v t1) i2_v
       (moved_link ns ms u k v m lo.trie lo.within kid_k.0 vu k_0 v_0 s i iu ∙ ap (swapped k v) (sym ek) ∙ swapped_l k v)
       (λ b n. moved_link ns ms u k v m lo.trie lo.within kid_k.0 vu k_0 v_0 b i iu ∙ ap (swapped k v) (other b n) ∙ moved_nil ns ms u k v m lo.trie lo.within kid_k.0 vu k_0 v_0)
-      src src_i src_o (λ j h. ap (λ (n : Node). n.len) (place j)) (λ j h. ap node_bit (place j)) (λ b j h. ap (child b) (place j))
+      src src_i src_o (λ j h. ap (λ (n : Node). n.prefix.len) (place j)) (λ j h. ap node_bit (place j)) (λ b j h. ap (child b) (place j))
 
   pub pulled_up : (to : ℕ) → to ≡ swapped k (u - 1) i → Pruned ns u (set ms to (at ms (u - 1))) (u - 1)
   pulled_up to e = subst (λ (n : ℕ). Pruned ns u (set ms n (at ms (u - 1))) (u - 1)) (sym e) (record {
@@ -114,7 +114,7 @@ module _ (ns ms : List Node) (u i p : ℕ) (s : Bool) (lo : Loose ns u i) (iu : 
   w_0 = omega arith
 
   p_i : p ≢ i
-  p_i e = lt_irrefl (at ns p).len (subst (λ (c : ℕ). (at ns p).len < (at ns c).len) (pp.link ∙ sym e) (lo.trie.kid s p pp.slot (λ z. lt_irrefl i (omega (arith, sym pp.link ∙ z, lo.trie.few)))).1.long)
+  p_i e = lt_irrefl (at ns p).prefix.len (subst (λ (c : ℕ). (at ns p).prefix.len < (at ns c).prefix.len) (pp.link ∙ sym e) (lo.trie.kid s p pp.slot (λ z. lt_irrefl i (omega (arith, sym pp.link ∙ z, lo.trie.few)))).1.long)
 
   a1 : Trie (at ms) u
   a1 = moved_trie ns ms u i w m lo.trie lo.within iu wu i0 w_0
@@ -145,7 +145,7 @@ module _ (ns ms : List Node) (u i p : ℕ) (s : Bool) (lo : Loose ns u i) (iu : 
   a2 : Trie (at ms3) w
   a2 = unlinked (at ms) (at ms3) w p2 s (subst (Trie (at ms)) suc_w a1) p2_w (lnk s p pp.slot ∙ ap (swapped i w) pp.link ∙ swapped_l i w)
       (λ b. ap (λ (x : ℕ). child b (at ms x)) (sym (swapped_l i w)) ∙ lnk b i iu ∙ ap (swapped i w) (leaf_child b (at ns i) leaf) ∙ nil)
-      (λ j h. ap (λ (n : Node). n.len) (relink_bare ms p2 s 65535 p2_l j)) (λ j h. ap node_bit (relink_bare ms p2 s 65535 p2_l j))
+      (λ j h. ap (λ (n : Node). n.prefix.len) (relink_bare ms p2 s 65535 p2_l j)) (λ j h. ap node_bit (relink_bare ms p2 s 65535 p2_l j))
       (relink_hit ms p2 s 65535 p2_l) (λ b j h z. relink_miss ms p2 s 65535 p2_l b j z)
 
   pub unlinked_leaf : (to : ℕ) (y : Node) → to ≡ swapped i (u - 1) p → y ≡ with_child s (at ms to) 65535 → Unlinked ns u (set ms to y) to s
@@ -179,8 +179,8 @@ emptied ns u lo h none leaf = record {
     bare_trie = record { few = omega arith; short = λ i l. absurd (not-suc-le-zero l); top = λ i l. absurd (not-suc-le-zero l); kid = λ s i l. absurd (not-suc-le-zero l); full = λ s i j l. absurd (not-suc-le-zero l); apart = λ i j l. absurd (not-suc-le-zero l) }
 
     only_0 : (j : ℕ) → j < u → j ≡ 0
-    only_0 j l = elim (cases_lt (at ns 0).len (at ns j).len) [
-      | inl g ↦ absurd (lt_irrefl 65535 (omega (arith, (lo.trie.full (node_bit (at ns j) (at ns 0).len) 0 j h l (record { long = g; same = (lo.trie.top j l).same; side = refl })).0, leaf_child (node_bit (at ns j) (at ns 0).len) (at ns 0) leaf, lo.trie.few)))
+    only_0 j l = elim (cases_lt (at ns 0).prefix.len (at ns j).prefix.len) [
+      | inl g ↦ absurd (lt_irrefl 65535 (omega (arith, (lo.trie.full (node_bit (at ns j) (at ns 0).prefix.len) 0 j h l (record { long = g; same = (lo.trie.top j l).same; side = refl })).0, leaf_child (node_bit (at ns j) (at ns 0).prefix.len) (at ns 0) leaf, lo.trie.few)))
       | inr g ↦ sym (lo.trie.apart 0 j h l (omega (arith, (lo.trie.top j l).long)) (lo.trie.top j l).same)
     ]
 
@@ -193,7 +193,7 @@ cleared ns u i g h = record {
 }
 
 -- a search that ends at the key's own slot
-pub exact_key : (ns : List Node) (u : ℕ) → Compressed ns u → (k : Node) (i c : ℕ) → Found (at ns) u k i c → (at ns i).len ≤ c → k.len ≤ c → key (at ns i) ≡ key k
+pub exact_key : (ns : List Node) (u : ℕ) → Compressed ns u → (k : Node) (i c : ℕ) → Found (at ns) u k i c → (at ns i).prefix.len ≤ c → k.prefix.len ≤ c → key (at ns i) ≡ key k
 exact_key ns u g k i c r li lk = key_same (at ns i) k (g.trie.short i r.slot) (omega (arith, r.shared.left, r.shared.right)) (λ m h. r.shared.same m (omega arith))
 
 -- the route of slot i is gone, and what is no branch with it

@@ -49,18 +49,18 @@ some_hop : (o : Option Halves) → (o ≡ None) ⊎ (o ≡ None → ⊥)
 some_hop None = inl refl
 some_hop (Some h) = inr (λ e. let z : ◌≡◌ {A = ℕ} 0 1 = cc in omega arith)
 
-below_nodes : (s : Bool) (a b : Node) → a.len ≤ 128 → b.len ≤ 128 → Beyond s a b → Beneath (key a) s (key b)
+below_nodes : (s : Bool) (a b : Node) → a.prefix.len ≤ 128 → b.prefix.len ≤ 128 → Beyond s a b → Beneath (key a) s (key b)
 below_nodes s a b p q r =
-    let la : length (key a) ≡ a.len = key_length a p in
-    let lb : length (key b) ≡ b.len = key_length b q in
+    let la : length (key a) ≡ a.prefix.len = key_length a p in
+    let lb : length (key b) ≡ b.prefix.len = key_length b q in
     below_beneath (key a) (key b) s (record {
       long = omega (arith, r.long);
       same = λ k h. key_at a k p (omega arith) ∙ r.same k (omega arith) ∙ sym (key_at b k q (omega (arith, r.long)));
-      side = subst (λ (n : ℕ). bit_of (key b) n ≡ s) (sym la) (key_at b a.len q r.long ∙ r.side);
+      side = subst (λ (n : ℕ). bit_of (key b) n ≡ s) (sym la) (key_at b a.prefix.len q r.long ∙ r.side);
     })
 
 module _ (ns : List Node) (u : ℕ) (g : Compressed ns u) where
-  bits_at : (i k : ℕ) → i < u → k < (at ns i).len → bit_of (key (at ns i)) k ≡ node_bit (at ns i) k
+  bits_at : (i k : ℕ) → i < u → k < (at ns i).prefix.len → bit_of (key (at ns i)) k ≡ node_bit (at ns i) k
   bits_at i k h l = key_at (at ns i) k (g.trie.short i h) l
 
   -- a slot for each route
@@ -68,16 +68,16 @@ module _ (ns : List Node) (u : ℕ) (g : Compressed ns u) where
   route_slot p r = elim (slot_of (at ns) u p) [ inl z ↦ z | inr z ↦ absurd (r (holds_none ns u g.within p z)) ]
 
   -- slots a and b part after n bits: a slot has those n bits
-  meet : (n a b : ℕ) → a < u → b < u → n < (at ns a).len → n < (at ns b).len → Agree n (node_bit (at ns a)) (node_bit (at ns b)) → node_bit (at ns a) n ≢ node_bit (at ns b) n
-      → (fuel i : ℕ) → i < u → Under (at ns i) (at ns a) → Under (at ns i) (at ns b) → n < (at ns i).len + fuel → (k : ℕ) × (k < u) × ((at ns k).len ≡ n) × Under (at ns k) (at ns a)
+  meet : (n a b : ℕ) → a < u → b < u → n < (at ns a).prefix.len → n < (at ns b).prefix.len → Agree n (node_bit (at ns a)) (node_bit (at ns b)) → node_bit (at ns a) n ≢ node_bit (at ns b) n
+      → (fuel i : ℕ) → i < u → Under (at ns i) (at ns a) → Under (at ns i) (at ns b) → n < (at ns i).prefix.len + fuel → (k : ℕ) × (k < u) × ((at ns k).prefix.len ≡ n) × Under (at ns k) (at ns a)
   meet n a b ha hb la lb same ne zero i hi p q f = absurd (ne (sym (p.same n (omega arith)) ∙ q.same n (omega arith)))
-  meet n a b ha hb la lb same ne (suc fuel) i hi p q f = elim (cases_lt n (at ns i).len) [
+  meet n a b ha hb la lb same ne (suc fuel) i hi p q f = elim (cases_lt n (at ns i).prefix.len) [
     | inl l ↦ absurd (ne (sym (p.same n l) ∙ q.same n l))
-    | inr l ↦ (elim (cases_eq (at ns i).len n) [
+    | inr l ↦ (elim (cases_eq (at ns i).prefix.len n) [
       | inl e ↦ (i, hi, e, p)
-      | inr e ↦ (let s : Bool = node_bit (at ns a) (at ns i).len in
+      | inr e ↦ (let s : Bool = node_bit (at ns a) (at ns i).prefix.len in
           let ka : (child s (at ns i) < u) × Under (at ns (child s (at ns i))) (at ns a) = g.trie.full s i a hi ha (record { long = omega arith; same = p.same; side = refl }) in
-          let kb : (child s (at ns i) < u) × Under (at ns (child s (at ns i))) (at ns b) = g.trie.full s i b hi hb (record { long = omega arith; same = q.same; side = sym (same (at ns i).len (omega arith)) }) in
+          let kb : (child s (at ns i) < u) × Under (at ns (child s (at ns i))) (at ns b) = g.trie.full s i b hi hb (record { long = omega arith; same = q.same; side = sym (same (at ns i).prefix.len (omega arith)) }) in
           let d : Beyond s (at ns i) (at ns (child s (at ns i))) = (g.trie.kid s i hi (λ z. lt_irrefl 65535 (omega (arith, ka.0, z, g.trie.few)))).1 in
           meet n a b ha hb la lb same ne fuel (child s (at ns i)) ka.0 ka.1 kb.1 (omega (arith, d.long)))
     ])
@@ -105,25 +105,25 @@ module _ (ns : List Node) (u : ℕ) (g : Compressed ns u) where
       o : HasSlot (at ns) u (r.sides true).0
       o = route_slot (r.sides true).0 (r.sides true).1
 
-      lz : (at ns z.0).len ≡ length (r.sides false).0
+      lz : (at ns z.0).prefix.len ≡ length (r.sides false).0
       lz = sym (key_length (at ns z.0) (g.trie.short z.0 z.1)) ∙ ap length z.2
 
-      lo : (at ns o.0).len ≡ length (r.sides true).0
+      lo : (at ns o.0).prefix.len ≡ length (r.sides true).0
       lo = sym (key_length (at ns o.0) (g.trie.short o.0 o.1)) ∙ ap length o.2
 
-      wz : (k : ℕ) → k < (at ns z.0).len → node_bit (at ns z.0) k ≡ bit_of (r.sides false).0 k
+      wz : (k : ℕ) → k < (at ns z.0).prefix.len → node_bit (at ns z.0) k ≡ bit_of (r.sides false).0 k
       wz k h = sym (bits_at z.0 k z.1 h) ∙ ap (λ (l : Bits). bit_of l k) z.2
 
-      wo : (k : ℕ) → k < (at ns o.0).len → node_bit (at ns o.0) k ≡ bit_of (r.sides true).0 k
+      wo : (k : ℕ) → k < (at ns o.0).prefix.len → node_bit (at ns o.0) k ≡ bit_of (r.sides true).0 k
       wo k h = sym (bits_at o.0 k o.1 h) ∙ ap (λ (l : Bits). bit_of l k) o.2
 
-      gz : length p < (at ns z.0).len
+      gz : length p < (at ns z.0).prefix.len
       gz = omega (arith, lz, b0.long)
 
-      go : length p < (at ns o.0).len
+      go : length p < (at ns o.0).prefix.len
       go = omega (arith, lo, b1.long)
 
-      m : (k : ℕ) × (k < u) × ((at ns k).len ≡ length p) × Under (at ns k) (at ns z.0)
+      m : (k : ℕ) × (k < u) × ((at ns k).prefix.len ≡ length p) × Under (at ns k) (at ns z.0)
       m = meet (length p) z.0 o.0 z.1 o.1 gz go
           (λ k h. wz k (omega (arith, gz, h)) ∙ sym (b0.same k h) ∙ b1.same k h ∙ sym (wo k (omega (arith, go, h))))
           (λ e. false≢true (sym (wz (length p) gz ∙ b0.side) ∙ e ∙ wo (length p) go ∙ b1.side))
@@ -136,7 +136,7 @@ module _ (ns : List Node) (u : ℕ) (g : Compressed ns u) where
       agree k h = bits_at m.0 k m.1 (omega (arith, m.2)) ∙ m.3.same k (omega (arith, m.2)) ∙ wz k (omega (arith, gz, h)) ∙ sym (b0.same k h)
 
   -- each slot has a route at or beneath it
-  route_under : (fuel i : ℕ) → i < u → 128 < (at ns i).len + fuel → (j : ℕ) × (j < u) × ((at ns j).hop ≡ None → ⊥) × Under (at ns i) (at ns j)
+  route_under : (fuel i : ℕ) → i < u → 128 < (at ns i).prefix.len + fuel → (j : ℕ) × (j < u) × ((at ns j).hop ≡ None → ⊥) × Under (at ns i) (at ns j)
   route_under zero i h f = absurd (lt_irrefl 128 (omega (arith, g.trie.short i h)))
   route_under (suc fuel) i h f = elim (some_hop (at ns i).hop) [
     | inr s ↦ (i, h, s, under_refl (at ns i))
@@ -178,7 +178,7 @@ module _ (ns : List Node) (u : ℕ) (g : Compressed ns u) where
   nodes_used = sym (counts (entries u ns) (collected_rises (take u ns)) (prefixes u ns) distinct exact) ∙ prefixes_length u ns g.within
 
   -- with the route of k
-  module _ (k : Node) (short : k.len ≤ 128) (some : k.hop ≡ None → ⊥) where
+  module _ (k : Node) (short : k.prefix.len ≤ 128) (some : k.hop ≡ None → ⊥) where
     abbrev after_map : Visible Halves
     after_map = altered (holds ns u) (key k) k.hop
 
@@ -198,21 +198,21 @@ module _ (ns : List Node) (u : ℕ) (g : Compressed ns u) where
         omega (arith, f (key k ∷ prefixes u ns) ((λ i. let r = in_prefixes u ns (key k) g.within i in new r.0 r.1 r.2), distinct) (inl route_k, all_count))
 
     -- where it parts from slot i after c bits, two
-    pub wants_two : (room i c : ℕ) → Found (at ns) u k i c → c < (at ns i).len → c < k.len → Fits room after_map → suc u < room
+    pub wants_two : (room i c : ℕ) → Found (at ns) u k i c → c < (at ns i).prefix.len → c < k.prefix.len → Fits room after_map → suc u < room
     wants_two room i c r l m f =
         let n : length (prefixes u ns) ≡ u = prefixes_length u ns g.within in
         omega (arith, f (key k ∷ (key B ∷ prefixes u ns)) (apart, (none_in, distinct)) (inl route_k, (inr (record { absent = no_route; sides = forks }), all_count)))
       where
         B : Node
-        B = unlinked k.prefix c None
+        B = unlinked (record { bits = k.prefix.bits; len = c }) None
 
         k_B : key k ≡ key B → ⊥
         k_B e = lt_irrefl c (omega (arith, key_size k B short (omega arith) e))
 
         none : (j : ℕ) → j < u → key (at ns j) ≡ key B → ⊥
         none j h e =
-            let size : (at ns j).len ≡ c = key_size (at ns j) B (g.trie.short j h) (omega arith) e in
-            let a : Agree (at ns j).len (node_bit (at ns j)) (node_bit k) = key_agree (at ns j) B (g.trie.short j h) (omega arith) e in
+            let size : (at ns j).prefix.len ≡ c = key_size (at ns j) B (g.trie.short j h) (omega arith) e in
+            let a : Agree (at ns j).prefix.len (node_bit (at ns j)) (node_bit k) = key_agree (at ns j) B (g.trie.short j h) (omega arith) e in
             omega (arith, (r.below j h (omega arith) (λ x q. a x (omega arith))).long)
 
         none_in : In (key B) (prefixes u ns) → ⊥

@@ -22,7 +22,7 @@ swapped h l j = cond (j == h) l (cond (j == l) h j)
 
 -- a node without its links
 abbrev pub bare : Node → Node
-bare n = record { prefix = n.prefix; len = n.len; hop = n.hop; left = 0; right = 0 }
+bare n = record { prefix = n.prefix; hop = n.hop; left = 0; right = 0 }
 
 -- the nodes of slots h and l have changed places, and the links follow
 pub record Moved (ns ms : List Node) (u h l : ℕ) : Type 0 where

@@ -2,6 +2,7 @@
 use Rattle.std.specs.Prelude.{ℕ, Bool, false, cond, List, [], ◌∷◌, map, take, Some, None, Option, slice_index_or}
 use Rattle.bits.specs.Bits.{Bits, equal}
 use Rattle.bits.specs.Halves.{word, front}
+use Rattle.bits.specs.declared.front.Front.{Front}
 use Rattle.bits.specs.declared.halves.Halves.{Halves}
 use Rattle.model.specs.Maps.{Map, Visible, route, held, put}
 use Rattle.model.specs.Machine.{Plane}
@@ -9,7 +10,7 @@ use Rattle.trie.specs.declared.node.Node.{Node}
 
 -- a node as an array is made of
 abbrev pub blank : Node
-blank = record { prefix = record { hi = 0; lo = 0 }; len = 0; hop = None; left = 0; right = 0 }
+blank = record { prefix = record { bits = record { hi = 0; lo = 0 }; len = 0 }; hop = None; left = 0; right = 0 }
 
 -- the node in slot i
 abbrev pub at : List Node → ℕ → Node
@@ -17,11 +18,11 @@ at ns i = slice_index_or ns i blank
 
 -- bit k of a node's address; the first len of them are its prefix
 abbrev pub node_bit : Node → ℕ → Bool
-node_bit n k = slice_index_or (word n.prefix) k false
+node_bit n k = slice_index_or (word n.prefix.bits) k false
 
 -- the prefix of a node
 unfoldable pub key : Node → Bits
-key n = front n.len n.prefix
+key n = front n.prefix.len n.prefix.bits
 
 -- the slot of the node below whose next bit is s; 65,535 is no link
 abbrev pub child : Bool → Node → ℕ
@@ -29,15 +30,15 @@ child s n = cond s n.right n.left
 
 -- the node with another link on side s
 abbrev pub with_child : Bool → Node → ℕ → Node
-with_child s n c = record { prefix = n.prefix; len = n.len; hop = n.hop; left = cond s n.left c; right = cond s c n.right }
+with_child s n c = record { prefix = n.prefix; hop = n.hop; left = cond s n.left c; right = cond s c n.right }
 
 -- the node with another hop
 abbrev pub with_hop : Node → Option Halves → Node
-with_hop n h = record { prefix = n.prefix; len = n.len; hop = h; left = n.left; right = n.right }
+with_hop n h = record { prefix = n.prefix; hop = h; left = n.left; right = n.right }
 
--- a node of no links for the first n bits of an address
-abbrev pub unlinked : Halves → ℕ → Option Halves → Node
-unlinked a n h = record { prefix = a; len = n; hop = h; left = 65535; right = 65535 }
+-- a node of no links for a prefix
+abbrev pub unlinked : Front → Option Halves → Node
+unlinked p h = record { prefix = p; hop = h; left = 65535; right = 65535 }
 
 -- the map with this hop at p, if there is one
 abbrev pub with_route : Option Halves → Bits → Map Halves → Map Halves

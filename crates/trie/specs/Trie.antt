@@ -20,20 +20,20 @@ pub record Leads (s : Bool) (m : ℕ) (v : ℕ → Bool) (n : ℕ) (w : ℕ → 
 
 -- b's prefix is at or beneath a's
 abbrev pub Under : Node → Node → Type 0
-Under a b = Begins a.len (node_bit a) b.len (node_bit b)
+Under a b = Begins a.prefix.len (node_bit a) b.prefix.len (node_bit b)
 
 -- b's prefix is beneath a's on the side s
 abbrev pub Beyond : Bool → Node → Node → Type 0
-Beyond s a b = Leads s a.len (node_bit a) b.len (node_bit b)
+Beyond s a b = Leads s a.prefix.len (node_bit a) b.prefix.len (node_bit b)
 
 -- the first u slots are a trie with its root in slot 0: each link leads to the next node beneath on its side, and no prefix stands twice
 pub record Trie (f : ℕ → Node) (u : ℕ) : Type 0 where
   pub few : u ≤ 65535
-  pub short : (i : ℕ) → i < u → (f i).len ≤ 128
+  pub short : (i : ℕ) → i < u → (f i).prefix.len ≤ 128
   pub top : (i : ℕ) → i < u → Under (f 0) (f i)
   pub kid : (s : Bool) (i : ℕ) → i < u → child s (f i) ≢ 65535 → (child s (f i) < u) × Beyond s (f i) (f (child s (f i)))
   pub full : (s : Bool) (i j : ℕ) → i < u → j < u → Beyond s (f i) (f j) → (child s (f i) < u) × Under (f (child s (f i))) (f j)
-  pub apart : (i j : ℕ) → i < u → j < u → (f i).len ≡ (f j).len → Agree (f i).len (node_bit (f i)) (node_bit (f j)) → i ≡ j
+  pub apart : (i j : ℕ) → i < u → j < u → (f i).prefix.len ≡ (f j).prefix.len → Agree (f i).prefix.len (node_bit (f i)) (node_bit (f j)) → i ≡ j
 
 -- path-compressed: a node without a route has nodes on both sides
 pub record Compressed (ns : List Node) (u : ℕ) : Type 0 where

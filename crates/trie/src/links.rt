@@ -2,6 +2,7 @@ ghost use Rattle.std.specs.Prelude.{◌≡◌};
 ghost use Rattle.trie.specs.Nodes.{child as next, with_child, unlinked as fresh};
 
 use crate::node::{NIL, Node};
+use bits::front::Front;
 use bits::halves::Halves;
 
 // The slot of the node beneath on the side of that bit, or NIL.
@@ -26,12 +27,11 @@ pub fn linked(node: Node, side: bool, slot: u16) -> Node
 }
 
 // A node with nothing beneath it.
-pub fn unlinked(prefix: Halves, len: u8, hop: Option<Halves>) -> Node
-    ensures { result ≡ fresh prefix len hop }
+pub fn unlinked(prefix: Front, hop: Option<Halves>) -> Node
+    ensures { result ≡ fresh prefix hop }
 {
     Node {
         prefix,
-        len,
         hop,
         left: NIL,
         right: NIL,

@@ -1,17 +1,17 @@
 ghost use Rattle.std.specs.Prelude.{◌≡◌};
 ghost use Rattle.trie.specs.Nodes.{blank as unused};
 
+use bits::front::Front;
 use bits::halves::Halves;
 
 // No link.
 pub const NIL: u16 = 65535;
 
-// A node: the first `len` bits of `prefix`, the next hop of its route (a branch has none), and the slots of the nodes below it, the
+// A node: its prefix, the next hop of its route (a branch has none), and the slots of the nodes below it, the
 // left one for the next bit 0 and the right one for the next bit 1.
 #[derive(Clone, Copy)]
 pub struct Node {
-    pub prefix: Halves,
-    pub len: u8,
+    pub prefix: Front,
     pub hop: Option<Halves>,
     pub left: u16,
     pub right: u16,
@@ -24,8 +24,7 @@ impl Node {
     {
         let zero = Halves { hi: 0, lo: 0 };
         Node {
-            prefix: zero,
-            len: 0,
+            prefix: Front { bits: zero, len: 0 },
             hop: None,
             left: 0,
             right: 0,

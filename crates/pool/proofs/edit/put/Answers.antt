@@ -55,6 +55,6 @@ returns-in-Fork c =
     let m : ℕ = c.in-Fork.end.shared in
     let e : c.args.used + 1 ≡ suc c.args.used = omega arith in
     placed_is _ _ _ _ _ _ _ c.requires.some (placed_at c.args.ns.now c.args.used c.args.room c.args.key _ _ _ _
-    (c.fork.ensures ∙ ap (λ (n : ℕ). with_leaf (with_split c.args.ns.now c.args.used i (node_bit (at c.args.ns.now i) m) (unlinked c.args.key.prefix m None)) n i (node_bit c.args.key m) c.args.key) e) (omega arith)
+    (c.fork.ensures ∙ ap (λ (n : ℕ). with_leaf (with_split c.args.ns.now c.args.used i (node_bit (at c.args.ns.now i) m) (unlinked (record { bits = c.args.key.prefix.bits; len = m }) None)) n i (node_bit c.args.key m) c.args.key) e) (omega arith)
     (way_fork c.args.ns.now c.args.used c.args.room c.requires.trie (omega arith) c.args.key c.requires.short c.requires.leaf (routed c.args.key c.args.hop c.requires.some) _ _ s.0
     (omega arith) c.requires.within c.requires.few s.1.0 s.1.1))

@@ -23,6 +23,6 @@ loop-key-preserved c = ((step c).slot, c.if-next-slot.false, (step c).under)
 
 pub loop-key-smaller : goal.loop-key-smaller
 loop-key-smaller c =
-    let l : (at c.args.ns.now c.loop-key.above).len < (at c.args.ns.now c.child-next.result).len = (step c).longer in
-    let s : (at c.args.ns.now c.child-next.result).len ≤ 128 = c.requires.trie.short c.child-next.result (step c).slot in
+    let l : (at c.args.ns.now c.loop-key.above).prefix.len < (at c.args.ns.now c.child-next.result).prefix.len = (step c).longer in
+    let s : (at c.args.ns.now c.child-next.result).prefix.len ≤ 128 = c.requires.trie.short c.child-next.result (step c).slot in
     omega (arith, l, s)

@@ -7,4 +7,4 @@ abbrev pub invariant-loop-key : goal.invariant-loop-key
 invariant-loop-key l = (l.above < l.used) × (l.above ≢ l.slot) × Under (at l.ns l.above) (at l.ns l.slot)
 
 abbrev pub decreases-loop-key : goal.decreases-loop-key
-decreases-loop-key l = 128 - (at l.ns l.above).len
+decreases-loop-key l = 128 - (at l.ns l.above).prefix.len

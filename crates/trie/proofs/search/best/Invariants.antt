@@ -3,8 +3,8 @@ use Rattle.trie.specs.Nodes.{at, unlinked}
 use Rattle.trie.specs.Search.{Scan}
 use Rattle.trie.proofs.search.best.Given as goal
 
-abbrev pub invariant-loop-address : goal.invariant-loop-address
-invariant-loop-address l = Scan (at l.ns) l.used (unlinked l.address l.bound None) l.slot l.known
+abbrev pub invariant-loop-sought : goal.invariant-loop-sought
+invariant-loop-sought l = Scan (at l.ns) l.used (unlinked l.sought None) l.slot l.known
 
-abbrev pub decreases-loop-address : goal.decreases-loop-address
-decreases-loop-address l = 128 - (at l.ns l.slot).len
+abbrev pub decreases-loop-sought : goal.decreases-loop-sought
+decreases-loop-sought l = 128 - (at l.ns l.slot).prefix.len

@@ -7,4 +7,4 @@ abbrev pub invariant-loop-node : goal.invariant-loop-node
 invariant-loop-node l = (d : ℕ) × Way (at l.ns) l.used l.key l.slot d
 
 abbrev pub decreases-loop-node : goal.decreases-loop-node
-decreases-loop-node l = 128 - (at l.ns l.slot).len
+decreases-loop-node l = 128 - (at l.ns l.slot).prefix.len
