@@ -1,5 +1,4 @@
-ghost use Rattle.std.specs.Prelude.{◌≡◌, ◌≤◌, [], ◌∷◌, length, ◌==◌};
-ghost use Rattle.bits.specs.Halves.{Aligned};
+ghost use Rattle.std.specs.Prelude.{◌≡◌, ◌≤◌, [], ◌∷◌, length};
 ghost use Rattle.model.specs.Maps.{held};
 ghost use Rattle.model.specs.Room.{nodes as nodes_of};
 ghost use Rattle.model.specs.Longest.{answer};
@@ -20,15 +19,10 @@ use bits::halves::Halves;
 use pool::edit::{insert, remove};
 use table::calls::Refusal;
 use table::interface::Table;
+use table::one_plane::{PLANES, has_plane, hop_in, room_in};
 use trie::links::unlinked;
 use trie::node::Node;
 use trie::search::{best, find};
-
-// The table has one plane, number 0.
-const PLANES: u16 = 1;
-
-// Of borrowed nodes no more than so many are used.
-const MOST: usize = 65535;
 
 // A PATRICIA table in borrowed nodes: the first `used` are one for each route and one for each branch, the root in slot 0.
 #[derive(Drop)]
@@ -79,10 +73,8 @@ impl<'a, A: Address> Patricia<'a, A> {
         ensures { as_hop A.Address.bits result ≡ held (routes A.Address.width self.now.used self.now.nodes.now) (A.Address.pbits prefix) }
     {
         let key = key_of::<A>(prefix, None);
-        match find(self.nodes, self.used, &key) {
-            Some(hop) => Some(hop_in(hop)),
-            None => None,
-        }
+        let hop = find(&self.nodes[..self.used], &key)?;
+        Some(hop_in(hop))
     }
 
     // The length and hop of the longest prefix that covers the address and is no longer than the bound.
@@ -95,16 +87,10 @@ impl<'a, A: Address> Patricia<'a, A> {
             bits: address.to_halves(),
             len: bound,
         };
-        match best(self.nodes, self.used, sought) {
-            Some(slot) => {
-                let node = self.nodes[slot];
-                match node.hop {
-                    Some(hop) => Some((node.prefix.len, hop_in(hop))),
-                    None => None,
-                }
-            }
-            None => None,
-        }
+        let slot = best(&self.nodes[..self.used], sought)?;
+        let node = self.nodes[slot];
+        let hop = node.hop?;
+        Some((node.prefix.len, hop_in(hop)))
     }
 }
 
@@ -116,28 +102,6 @@ fn key_of<A: Address>(prefix: A::Prefix, hop: Option<Halves>) -> Node
     ensures leaf { Leaf result }
 {
     unlinked(A::front(prefix), hop)
-}
-
-// The next hop in these halves.
-fn hop_in<A: Address>(hop: Halves) -> A
-    requires { Aligned A.Address.width hop }
-    ensures { result ≡ A.Address.joined hop }
-{
-    A::from_halves(hop)
-}
-
-// How many of so many borrowed nodes are used at most.
-fn room_in(nodes: usize) -> usize
-    ensures { result ≡ usable nodes }
-{
-    nodes.min(MOST)
-}
-
-// Whether the table has the plane.
-fn has_plane(plane: u16) -> bool
-    ensures { result ≡ (plane == 0) }
-{
-    plane < PLANES
 }
 
 impl<'a, A: Address> Table for Patricia<'a, A> {
@@ -164,7 +128,7 @@ impl<'a, A: Address> Table for Patricia<'a, A> {
     ghost current = { λ s v. tt };
 
     fn plane_count(&self) -> u16 {
-        PLANES
+        PLANES // plane 0 alone
     }
 
     fn announce(&mut self, plane: u16, prefix: A::Prefix, hop: A) -> Result<(), Refusal> {
@@ -173,15 +137,9 @@ impl<'a, A: Address> Table for Patricia<'a, A> {
         }
         let halves = hop.to_halves();
         let key = key_of::<A>(prefix, Some(halves));
-        let used = self.used;
         let room = room_in(self.nodes.len());
-        match insert(self.nodes, used, room, key, halves) {
-            Some(used) => {
-                self.used = used;
-                Ok(())
-            }
-            None => Err(Refusal::NoRoom),
-        }
+        self.used = insert(self.nodes, self.used, room, key, halves).ok_or(Refusal::NoRoom)?;
+        Ok(())
     }
 
     fn withdraw(&mut self, plane: u16, prefix: A::Prefix) -> Result<(), Refusal> {
@@ -189,14 +147,8 @@ impl<'a, A: Address> Table for Patricia<'a, A> {
             return Err(Refusal::NoPlane);
         }
         let key = key_of::<A>(prefix, None);
-        let used = self.used;
-        match remove(self.nodes, used, &key) {
-            Some(used) => {
-                self.used = used;
-                Ok(())
-            }
-            None => Err(Refusal::NotHeld),
-        }
+        self.used = remove(self.nodes, self.used, &key).ok_or(Refusal::NotHeld)?;
+        Ok(())
     }
 
     fn fetch(&mut self, plane: u16, prefix: A::Prefix) -> Result<Option<A>, Refusal> {

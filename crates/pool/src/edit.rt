@@ -126,10 +126,8 @@ pub fn insert(ns: &mut [Node], used: usize, room: usize, key: Node, hop: Halves)
     requires some { key.hop ≡ Some hop }
     ensures { Announced ns.old used room (prefix_of key) hop ns.new result }
 {
-    match decide(ns, used, room, &key, hop) {
-        Some(plan) => Some(put(ns, used, room, key, hop, plan)),
-        None => None, // no room: nothing is written
-    }
+    let plan = decide(&ns[..used], room, &key, hop)?; // no room: nothing is written
+    Some(put(ns, used, room, key, hop, plan))
 }
 
 // Takes the route of `key`, which is in that slot, out. How many nodes are then in use.
@@ -150,8 +148,6 @@ pub fn remove(ns: &mut [Node], used: usize, key: &Node) -> Option<usize>
     requires short { key.now.prefix.len ≤ 128 }
     ensures { Withdrawn ns.old used (prefix_of key.now) ns.new result }
 {
-    match locate(ns, used, key) {
-        Some(slot) => Some(take(ns, used, key, slot)),
-        None => None, // not held: nothing is written
-    }
+    let slot = locate(&ns[..used], key)?; // not held: nothing is written
+    Some(take(ns, used, key, slot))
 }

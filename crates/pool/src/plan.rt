@@ -1,4 +1,4 @@
-ghost use Rattle.std.specs.Prelude.{◌≡◌, ◌+◌, ◌≤◌, Some, nat_le};
+ghost use Rattle.std.specs.Prelude.{◌≡◌, ◌+◌, ◌≤◌, length, Some, nat_le};
 ghost use Rattle.trie.specs.Trie.{Compressed};
 ghost use Rattle.pool.specs.Plans.{Meets, Suits, wanted as nodes_wanted, Planned};
 
@@ -67,15 +67,15 @@ impl Plan {
 }
 
 // How the prefix of `key` goes into the trie.
-fn suited(ns: &[Node], used: usize, key: &Node) -> Plan
-    requires trie { Compressed ns.now used }
+fn suited(ns: &[Node], key: &Node) -> Plan
+    requires trie { Compressed ns.now (length ns.now) }
     requires short { key.now.prefix.len ≤ 128 }
-    ensures { Suits ns.now used key.now result }
+    ensures { Suits ns.now (length ns.now) key.now result }
 {
-    if used == 0 {
+    if ns.is_empty() {
         return Plan::Root;
     }
-    let end = seek(ns, used, key);
+    let end = seek(ns, key);
     match meet(ns[end.slot].prefix.len, key.prefix.len, end.shared) {
         Meeting::Same => Plan::Set(end),
         Meeting::Below => Plan::Leaf(end),
@@ -93,15 +93,15 @@ fn has_room(used: usize, room: usize, more: usize) -> bool
 }
 
 // How the route of `key` to the hop goes into the trie, or none where there is no room for it.
-pub fn decide(ns: &[Node], used: usize, room: usize, key: &Node, hop: Halves) -> Option<Plan>
-    requires trie { Compressed ns.now used }
-    requires fits { used ≤ room }
+pub fn decide(ns: &[Node], room: usize, key: &Node, hop: Halves) -> Option<Plan>
+    requires trie { Compressed ns.now (length ns.now) }
+    requires fits { length ns.now ≤ room }
     requires short { key.now.prefix.len ≤ 128 }
     requires some { key.now.hop ≡ Some hop }
-    ensures { Planned ns.now used room key.now hop result }
+    ensures { Planned ns.now (length ns.now) room key.now hop result }
 {
-    let plan = suited(ns, used, key);
-    if has_room(used, room, plan.wanted()) {
+    let plan = suited(ns, key);
+    if has_room(ns.len(), room, plan.wanted()) {
         Some(plan)
     } else {
         None

@@ -13,3 +13,4 @@ pub mod Scans
 pub mod Entries
 pub mod Planes
 pub mod Exact
+pub mod InUse

@@ -25,21 +25,20 @@ fn is_exact(node: u8, key: u8, shared: u8) -> bool
 }
 
 // Searches for the prefix of `key`, from the root down its bits.
-pub fn seek(ns: &[Node], used: usize, key: &Node) -> End
-    requires trie { Trie (at ns.now) used }
-    requires within { used ≤ length ns.now }
-    requires some { 0 < used }
+pub fn seek(ns: &[Node], key: &Node) -> End
+    requires trie { Trie (at ns.now) (length ns.now) }
+    requires some { 0 < length ns.now }
     requires short { key.now.prefix.len ≤ 128 }
-    ensures { Found (at ns.now) used key.now result.slot result.shared }
+    ensures { Found (at ns.now) (length ns.now) key.now result.slot result.shared }
 {
     let mut slot = 0usize;
     loop {
-        let node = ns[slot];
+        let node = &ns[slot];
         let both = node.prefix.common_len(key.prefix);
         if both < node.prefix.len || both >= key.prefix.len {
             return End { slot, shared: both };
         }
-        let next = child(&node, key.prefix.bits.bit_at(both));
+        let next = child(node, key.prefix.bits.bit_at(both));
         if next == NIL {
             return End { slot, shared: both };
         }
@@ -48,16 +47,17 @@ pub fn seek(ns: &[Node], used: usize, key: &Node) -> End
 }
 
 // The slot of the route of `key`, if the trie holds it.
-pub fn locate(ns: &[Node], used: usize, key: &Node) -> Option<usize>
-    requires trie { Compressed ns.now used }
+pub fn locate(ns: &[Node], key: &Node) -> Option<usize>
+    requires trie { Compressed ns.now (length ns.now) }
     requires short { key.now.prefix.len ≤ 128 }
-    ensures { Located ns.now used (prefix_of key.now) result }
+    ensures { Located ns.now (length ns.now) (prefix_of key.now) result }
 {
-    if used == 0 {
+    if ns.is_empty() {
         return None;
     }
-    let end = seek(ns, used, key);
-    if is_exact(ns[end.slot].prefix.len, key.prefix.len, end.shared) && ns[end.slot].hop.is_some() {
+    let end = seek(ns, key);
+    let node = &ns[end.slot];
+    if is_exact(node.prefix.len, key.prefix.len, end.shared) && node.hop.is_some() {
         Some(end.slot)
     } else {
         None
@@ -65,15 +65,13 @@ pub fn locate(ns: &[Node], used: usize, key: &Node) -> Option<usize>
 }
 
 // The hop of the route of `key`, if the trie holds it.
-pub fn find(ns: &[Node], used: usize, key: &Node) -> Option<Halves>
-    requires trie { Compressed ns.now used }
+pub fn find(ns: &[Node], key: &Node) -> Option<Halves>
+    requires trie { Compressed ns.now (length ns.now) }
     requires short { key.now.prefix.len ≤ 128 }
-    ensures { result ≡ holds ns.now used (prefix_of key.now) }
+    ensures { result ≡ holds ns.now (length ns.now) (prefix_of key.now) }
 {
-    match locate(ns, used, key) {
-        Some(slot) => ns[slot].hop,
-        None => None,
-    }
+    let slot = locate(ns, key)?;
+    ns[slot].hop
 }
 
 // Whether the prefix is that of the bits sought, or begins them.
@@ -103,19 +101,20 @@ fn note(known: &mut Option<usize>, routed: bool, slot: usize)
 
 // The slot of the longest route that begins the bits sought. Only at routes is the prefix compared: beneath a branch that does not begin
 // them no route does.
-pub fn best(ns: &[Node], used: usize, sought: Front) -> Option<usize>
-    requires trie { Compressed ns.now used }
+pub fn best(ns: &[Node], sought: Front) -> Option<usize>
+    requires trie { Compressed ns.now (length ns.now) }
     requires short { sought.len ≤ 128 }
-    ensures { Best (at ns.now) used (fresh sought None) result }
+    ensures { Best (at ns.now) (length ns.now) (fresh sought None) result }
 {
     let mut known = None;
-    if used == 0 {
+    if ns.is_empty() {
         return known;
     }
     let mut slot = 0usize;
     loop {
-        let prefix = ns[slot].prefix;
-        let routed = ns[slot].hop.is_some();
+        let node = &ns[slot];
+        let prefix = node.prefix;
+        let routed = node.hop.is_some();
         if !passes(routed, prefix, sought) {
             return known;
         }
@@ -123,7 +122,7 @@ pub fn best(ns: &[Node], used: usize, sought: Front) -> Option<usize>
         if prefix.len >= sought.len {
             return known;
         }
-        let next = child(&ns[slot], sought.bits.bit_at(prefix.len));
+        let next = child(node, sought.bits.bit_at(prefix.len));
         if next == NIL {
             return known;
         }

@@ -1,8 +1,8 @@
-use Rattle.std.proofs.Common.{sym, ap, ◌∙◌}
+use Rattle.std.proofs.Common.{length, sym, ap, ◌∙◌}
 use Rattle.trie.specs.Nodes.{holds}
 use Rattle.trie.proofs.Rooms.{slot_holds}
 use Rattle.trie.proofs.search.find.Goals as goal
 
-pub returns-in-Some : goal.returns-in-Some
-returns-in-Some c =
-    sym (slot_holds _ _ c.requires.trie _ c.in-Some.ensures.0) ∙ ap (holds c.args.ns.now c.args.used) c.in-Some.ensures.1
+pub returns : goal.returns
+returns c =
+    sym (slot_holds _ _ c.requires.trie _ c.in_ok-slot.ensures.0) ∙ ap (holds c.args.ns.now (length c.args.ns.now)) c.in_ok-slot.ensures.1

@@ -1,4 +1,4 @@
-use Rattle.std.proofs.Common.{◌≡◌, is_some, sym, ap, ◌∙◌, arith}
+use Rattle.std.proofs.Common.{length, ◌≡◌, is_some, sym, ap, ◌∙◌, arith}
 use Rattle.std.proofs.lemmas.Bool.{true≢false}
 use Rattle.trie.specs.Nodes.{at, key}
 use Rattle.trie.proofs.Keys.{holds_none, found_none}
@@ -23,5 +23,5 @@ returns-else-is_exact c = elim c.else-is_exact.branch [
   | else-is_exact-via-then-is_exact+else-is_some w ↦
       (let e : (c.seek-end.result.shared ≡ (at c.args.ns.now c.seek-end.result.slot).prefix.len) × (c.seek-end.result.shared ≡ c.args.key.now.prefix.len) = both_equal _ _ _ _ c.is_exact.ensures w.if-is_exact.true in
       let k : key (at c.args.ns.now c.seek-end.result.slot) ≡ key c.args.key.now = exact_key _ _ c.requires.trie _ _ _ c.seek-end.ensures (omega (arith, e.0)) (omega (arith, e.1)) in
-      ap (Rattle.trie.specs.Nodes.holds c.args.ns.now c.args.used) (sym k) ∙ slot_holds _ _ c.requires.trie _ c.seek-end.ensures.slot ∙ none_seen _ (sym w.is_some.ensures ∙ w.if-is_some.false))
+      ap (Rattle.trie.specs.Nodes.holds c.args.ns.now (length c.args.ns.now)) (sym k) ∙ slot_holds _ _ c.requires.trie _ c.seek-end.ensures.slot ∙ none_seen _ (sym w.is_some.ensures ∙ w.if-is_some.false))
 ]

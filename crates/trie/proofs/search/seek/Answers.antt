@@ -1,4 +1,4 @@
-use Rattle.std.proofs.Common.{suc, ◌<◌, ◌≤◌, Bool, sym, ap, ◌∙◌, arith}
+use Rattle.std.proofs.Common.{length, suc, ◌<◌, ◌≤◌, Bool, sym, ap, ◌∙◌, arith}
 use Rattle.trie.specs.Nodes.{at, child}
 use Rattle.trie.specs.Search.{Way}
 use Rattle.trie.proofs.Commons.{shared_is}
@@ -16,7 +16,7 @@ returns-then-next c = way_found _ _ c.requires.trie _ _ _ _ c.loop-node.invarian
     (shared_is (at c.args.ns.now c.loop-node.slot) c.args.key.now c.common_len-both.result (c.requires.trie.short _ c.loop-node.invariant.1.slot) c.requires.short c.common_len-both.ensures)
     (λ e l. ap (λ (s : Bool). child s (at c.args.ns.now c.loop-node.slot)) (sym c.bit_at.ensures) ∙ sym c.child-next.ensures ∙ c.if-next.true)
 
-next : (c : goal.Else-next) → (Way (at c.args.ns.now) c.args.used c.args.key.now c.child-next.result (suc (at c.args.ns.now c.loop-node.slot).prefix.len))
+next : (c : goal.Else-next) → (Way (at c.args.ns.now) (length c.args.ns.now) c.args.key.now c.child-next.result (suc (at c.args.ns.now c.loop-node.slot).prefix.len))
     × ((at c.args.ns.now c.loop-node.slot).prefix.len < (at c.args.ns.now c.child-next.result).prefix.len)
 next c = way_next _ _ c.requires.trie _ c.loop-node.slot _ c.common_len-both.result c.child-next.result c.loop-node.invariant.1
     (shared_is (at c.args.ns.now c.loop-node.slot) c.args.key.now c.common_len-both.result (c.requires.trie.short _ c.loop-node.invariant.1.slot) c.requires.short c.common_len-both.ensures)
