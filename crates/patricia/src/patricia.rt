@@ -1,13 +1,8 @@
-ghost use Rattle.std.specs.Prelude.{◌≡◌, ◌≤◌, [], ◌∷◌, length};
-ghost use Rattle.model.specs.Maps.{held};
+ghost use Rattle.std.specs.Prelude.{◌≡◌, ◌≤◌, [], length};
 ghost use Rattle.model.specs.Room.{nodes as nodes_of};
-ghost use Rattle.model.specs.Longest.{answer};
-ghost use Rattle.table.specs.Meaning.{as_hop, as_answer};
-ghost use Rattle.model.specs.Tables.{plain, usable, nodes_room};
+ghost use Rattle.model.specs.Tables.{usable, nodes_room};
 ghost use Rattle.model.specs.Stack.{table as leaf};
-ghost use Rattle.model.proofs.SoundLaws.{plain_local};
 ghost use Rattle.model.proofs.RoomLaws.{nodes_room as nodes_law};
-ghost use Rattle.model.proofs.OnePlane.{one_described};
 ghost use Rattle.trie.specs.Nodes.{key as prefix_of, routes};
 ghost use Rattle.trie.specs.Trie.{Leaf};
 ghost use Rattle.trie.specs.Well.{WellFormed};
@@ -17,9 +12,9 @@ use address::kind::Address;
 use bits::front::Front;
 use bits::halves::Halves;
 use pool::edit::{insert, remove};
+use table::borrowed::{hop_in, room_in};
 use table::calls::Refusal;
-use table::interface::Table;
-use table::one_plane::{PLANES, has_plane, hop_in, room_in};
+use table::one_plane::OnePlane;
 use trie::links::unlinked;
 use trie::node::Node;
 use trie::search::{best, find};
@@ -66,32 +61,6 @@ impl<'a, A: Address> Patricia<'a, A> {
     {
         self.used // each node in use is of a route or a branch
     }
-
-    // The hop of the prefix, if it is held.
-    fn hop_of(&self, prefix: A::Prefix) -> Option<A>
-        requires { WellFormed A.Address.width self.now.used self.now.nodes.now }
-        ensures { as_hop A.Address.bits result ≡ held (routes A.Address.width self.now.used self.now.nodes.now) (A.Address.pbits prefix) }
-    {
-        let key = key_of::<A>(prefix, None);
-        let hop = find(&self.nodes[..self.used], &key)?;
-        Some(hop_in(hop))
-    }
-
-    // The length and hop of the longest prefix that covers the address and is no longer than the bound.
-    fn longest(&self, address: A, bound: u8) -> Option<(u8, A)>
-        requires valid { WellFormed A.Address.width self.now.used self.now.nodes.now }
-        requires within { bound ≤ A.Address.width }
-        ensures { as_answer A.Address.bits result ≡ answer (held (routes A.Address.width self.now.used self.now.nodes.now)) (A.Address.bits address) bound }
-    {
-        let sought = Front {
-            bits: address.to_halves(),
-            len: bound,
-        };
-        let slot = best(&self.nodes[..self.used], sought)?;
-        let node = self.nodes[slot];
-        let hop = node.hop?;
-        Some((node.prefix.len, hop_in(hop)))
-    }
 }
 
 // A node for the prefix, with nothing beneath it.
@@ -104,37 +73,20 @@ fn key_of<A: Address>(prefix: A::Prefix, hop: Option<Halves>) -> Node
     unlinked(A::front(prefix), hop)
 }
 
-impl<'a, A: Address> Table for Patricia<'a, A> {
-    type Addr = A;
+impl<'a, A: Address> OnePlane for Patricia<'a, A> {
+    type Kind = A;
 
-    ghost planes = { λ s. routes A.Address.width s.used s.nodes.now ∷ [] };
-
-    ghost view = { λ s. plain };
+    ghost routes = { λ s. routes A.Address.width s.used s.nodes.now };
 
     ghost room = { λ s. nodes_room (length s.nodes.now) };
 
-    ghost stack = { λ s. leaf (routes A.Address.width s.used s.nodes.now ∷ []) plain (nodes_room (length s.nodes.now)) };
-
-    ghost valid = { λ s. WellFormed A.Address.width s.used s.nodes.now };
-
-    ghost described = { λ s. one_described (routes A.Address.width s.used s.nodes.now) (nodes_room (length s.nodes.now)) };
-
-    ghost local = { λ s. plain_local };
+    ghost well = { λ s. WellFormed A.Address.width s.used s.nodes.now };
 
     ghost roomy = { λ s i. nodes_law (usable (length s.nodes.now)) };
 
     ghost sound = { λ s v. plane_sound A.Address.width s.used s.nodes.now v };
 
-    ghost current = { λ s v. tt };
-
-    fn plane_count(&self) -> u16 {
-        PLANES // plane 0 alone
-    }
-
-    fn announce(&mut self, plane: u16, prefix: A::Prefix, hop: A) -> Result<(), Refusal> {
-        if !has_plane(plane) {
-            return Err(Refusal::NoPlane);
-        }
+    fn insert(&mut self, prefix: A::Prefix, hop: A) -> Result<(), Refusal> {
         let halves = hop.to_halves();
         let key = key_of::<A>(prefix, Some(halves));
         let room = room_in(self.nodes.len());
@@ -142,26 +94,26 @@ impl<'a, A: Address> Table for Patricia<'a, A> {
         Ok(())
     }
 
-    fn withdraw(&mut self, plane: u16, prefix: A::Prefix) -> Result<(), Refusal> {
-        if !has_plane(plane) {
-            return Err(Refusal::NoPlane);
-        }
+    fn remove(&mut self, prefix: A::Prefix) -> Result<(), Refusal> {
         let key = key_of::<A>(prefix, None);
         self.used = remove(self.nodes, self.used, &key).ok_or(Refusal::NotHeld)?;
         Ok(())
     }
 
-    fn fetch(&mut self, plane: u16, prefix: A::Prefix) -> Result<Option<A>, Refusal> {
-        if !has_plane(plane) {
-            return Err(Refusal::NoPlane);
-        }
-        Ok(self.hop_of(prefix))
+    fn hop_of(&self, prefix: A::Prefix) -> Option<A> {
+        let key = key_of::<A>(prefix, None);
+        let hop = find(&self.nodes[..self.used], &key)?;
+        Some(hop_in(hop))
     }
 
-    fn lookup(&mut self, address: A, bound: u8) -> Result<Option<(u8, A)>, Refusal> {
-        if bound > A::wide() {
-            return Err(Refusal::BoundTooLong);
-        }
-        Ok(self.longest(address, bound))
+    fn longest(&self, address: A, bound: u8) -> Option<(u8, A)> {
+        let sought = Front {
+            bits: address.to_halves(),
+            len: bound,
+        };
+        let slot = best(&self.nodes[..self.used], sought)?;
+        let node = self.nodes[slot];
+        let hop = node.hop?;
+        Some((node.prefix.len, hop_in(hop)))
     }
 }

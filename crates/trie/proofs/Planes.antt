@@ -17,7 +17,8 @@ use Rattle.model.specs.Laws.{Sound}
 use Rattle.model.specs.Tables.{usable, nodes_room}
 use Rattle.model.proofs.MapLaws.{none≢some}
 use Rattle.model.proofs.LongestLaws.{longest_laws}
-use Rattle.model.proofs.OnePlane.{one_sound, Single, announce_done, announce_full, withdraw_done, withdraw_absent}
+use Rattle.model.specs.Single.{Single}
+use Rattle.model.proofs.OnePlane.{one_sound, announce_done, announce_full, withdraw_done, withdraw_absent}
 use Rattle.model.proofs.Mapped.{mapped, made, held_all, put_all, removed_all, put_mapped, removed_mapped, held_mapped, rising_mapped}
 use Rattle.trie.specs.declared.node.Node.{Node}
 use Rattle.trie.specs.Nodes.{at, key, unlinked, entries, routes, holds}
@@ -99,22 +100,20 @@ module _ (w u : ℕ) (ns : List Node) (good : WellFormed w u ns) where
       hops = subst (AllByRecursion (λ r. AddressHalves w r.value)) (sym x.2) (put_all (λ r. AddressHalves w r.value) (entries u ns) p h ok good.hops);
     }
 
-    pub announced : (ms : List Node) (v i : ℕ) → i ≡ 0 → Announced ns u (usable (length ns)) p h ms (Some v)
-        → Single (nodes_room (length ns)) (routes w u ns) (routes w v ms) (on i (announce p b)) done
-    announced ms v i z x =
+    pub announced : (ms : List Node) (v : ℕ) → Announced ns u (usable (length ns)) p h ms (Some v)
+        → Single (nodes_room (length ns)) (routes w u ns) (routes w v ms) (on 0 (announce p b)) done
+    announced ms v x =
         let plane : routes w v ms ≡ put (routes w u ns) p b = ap (mapped (front w)) x.2 ∙ sym put_plane in
         let fits : fits_nodes (usable (length ns)) (routes w v ms) ≡ true = le-leb _ _ (omega (arith, plane_nodes w v ms x.0, x.1)) in
-        subst (λ (j : ℕ). Single (nodes_room (length ns)) (routes w u ns) (routes w v ms) (on j (announce p b)) done) (sym z)
-        (subst (λ (m : Plane). Single (nodes_room (length ns)) (routes w u ns) m (on 0 (announce p b)) done) (sym plane)
-        (announce_done (nodes_room (length ns)) (routes w u ns) p b (ap (fits_nodes (usable (length ns))) (sym plane) ∙ fits)))
+        subst (λ (m : Plane). Single (nodes_room (length ns)) (routes w u ns) m (on 0 (announce p b)) done) (sym plane)
+        (announce_done (nodes_room (length ns)) (routes w u ns) p b (ap (fits_nodes (usable (length ns))) (sym plane) ∙ fits))
 
-    pub no_room : (ms : List Node) (i : ℕ) → i ≡ 0 → Announced ns u (usable (length ns)) p h ms None
-        → Single (nodes_room (length ns)) (routes w u ns) (routes w u ms) (on i (announce p b)) (refused 15)
-    no_room ms i z x =
-        subst (λ (j : ℕ). Single (nodes_room (length ns)) (routes w u ns) (routes w u ms) (on j (announce p b)) (refused 15)) (sym z)
-        (subst (λ (l : List Node). Single (nodes_room (length ns)) (routes w u ns) (routes w u l) (on 0 (announce p b)) (refused 15)) (sym x.0)
+    pub no_room : (ms : List Node) → Announced ns u (usable (length ns)) p h ms None
+        → Single (nodes_room (length ns)) (routes w u ns) (routes w u ms) (on 0 (announce p b)) (refused 15)
+    no_room ms x =
+        subst (λ (l : List Node). Single (nodes_room (length ns)) (routes w u ns) (routes w u l) (on 0 (announce p b)) (refused 15)) (sym x.0)
         (announce_full (nodes_room (length ns)) (routes w u ns) p b
-        (ap (fits_nodes (usable (length ns))) put_plane ∙ ap (λ (n : ℕ). lib.Dec.leb n (usable (length ns))) (nodes_mapped (front w) (put (entries u ns) p h)) ∙ x.1)))
+        (ap (fits_nodes (usable (length ns))) put_plane ∙ ap (λ (n : ℕ). lib.Dec.leb n (usable (length ns))) (nodes_mapped (front w) (put (entries u ns) p h)) ∙ x.1))
 
   -- a route taken out
   pub withdrawn_good : (p : Bits) (ms : List Node) (v : ℕ) → length ms ≡ length ns → Withdrawn ns u p ms (Some v) → WellFormed w v ms
@@ -125,26 +124,24 @@ module _ (w u : ℕ) (ns : List Node) (good : WellFormed w u ns) where
     hops = subst (AllByRecursion (λ r. AddressHalves w r.value)) (sym x.2) (removed_all (λ r. AddressHalves w r.value) (entries u ns) p good.hops);
   }
 
-  pub withdrawn : (p : Bits) (ms : List Node) (v i : ℕ) → i ≡ 0 → Withdrawn ns u p ms (Some v)
-      → Single (nodes_room (length ns)) (routes w u ns) (routes w v ms) (on i (withdraw p)) done
-  withdrawn p ms v i z x = go (held (entries u ns) p) refl
+  pub withdrawn : (p : Bits) (ms : List Node) (v : ℕ) → Withdrawn ns u p ms (Some v)
+      → Single (nodes_room (length ns)) (routes w u ns) (routes w v ms) (on 0 (withdraw p)) done
+  withdrawn p ms v x = go (held (entries u ns) p) refl
     where
       plane : routes w v ms ≡ removed (routes w u ns) p
       plane = ap (mapped (front w)) x.2 ∙ sym (removed_mapped (front w) (entries u ns) p)
 
-      go : (o : Option Halves) → held (entries u ns) p ≡ o → Single (nodes_room (length ns)) (routes w u ns) (routes w v ms) (on i (withdraw p)) done
+      go : (o : Option Halves) → held (entries u ns) p ≡ o → Single (nodes_room (length ns)) (routes w u ns) (routes w v ms) (on 0 (withdraw p)) done
       go None f = absurd (x.3 f)
       go (Some h) f =
-          subst (λ (j : ℕ). Single (nodes_room (length ns)) (routes w u ns) (routes w v ms) (on j (withdraw p)) done) (sym z)
-          (subst (λ (m : Plane). Single (nodes_room (length ns)) (routes w u ns) m (on 0 (withdraw p)) done) (sym plane)
-          (withdraw_done (nodes_room (length ns)) (routes w u ns) p (front w h) (plane_holds p ∙ ap (made (front w)) f)))
+          subst (λ (m : Plane). Single (nodes_room (length ns)) (routes w u ns) m (on 0 (withdraw p)) done) (sym plane)
+          (withdraw_done (nodes_room (length ns)) (routes w u ns) p (front w h) (plane_holds p ∙ ap (made (front w)) f))
 
-  pub not_held : (p : Bits) (ms : List Node) (i : ℕ) → i ≡ 0 → Withdrawn ns u p ms None
-      → Single (nodes_room (length ns)) (routes w u ns) (routes w u ms) (on i (withdraw p)) (refused 14)
-  not_held p ms i z x =
-      subst (λ (j : ℕ). Single (nodes_room (length ns)) (routes w u ns) (routes w u ms) (on j (withdraw p)) (refused 14)) (sym z)
-      (subst (λ (l : List Node). Single (nodes_room (length ns)) (routes w u ns) (routes w u l) (on 0 (withdraw p)) (refused 14)) (sym x.0)
-      (withdraw_absent (nodes_room (length ns)) (routes w u ns) p (plane_holds p ∙ ap (made (front w)) x.1)))
+  pub not_held : (p : Bits) (ms : List Node) → Withdrawn ns u p ms None
+      → Single (nodes_room (length ns)) (routes w u ns) (routes w u ms) (on 0 (withdraw p)) (refused 14)
+  not_held p ms x =
+      subst (λ (l : List Node). Single (nodes_room (length ns)) (routes w u ns) (routes w u l) (on 0 (withdraw p)) (refused 14)) (sym x.0)
+      (withdraw_absent (nodes_room (length ns)) (routes w u ns) p (plane_holds p ∙ ap (made (front w)) x.1))
 
   -- the answer of a lookup, by the longest route that covers the address
   module _ (a : Front) (narrow : w ≤ 128) (bound : a.len ≤ w) where

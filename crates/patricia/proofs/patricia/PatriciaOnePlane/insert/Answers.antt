@@ -1,17 +1,16 @@
 use Rattle.std.proofs.Common.{◌≡◌, ℕ, List, length, Some, None, sym, ap, ◌∙◌, subst}
-use Rattle.std.proofs.lemmas.Bool.{true≢false, eqb-true}
+use Rattle.std.proofs.lemmas.Bool.{true≢false}
 use Rattle.std.proofs.lemmas.Result.{err_from_is_err_and}
 use Rattle.bits.specs.Bits.{Bits}
 use Rattle.bits.specs.Halves.{front}
 use Rattle.model.specs.Tables.{usable, nodes_room}
-use Rattle.model.proofs.OnePlane.{single_does}
 use Rattle.trie.specs.declared.node.Node.{Node}
 use Rattle.trie.specs.Nodes.{key, routes}
 use Rattle.trie.specs.Changes.{Announced}
 use Rattle.trie.specs.Well.{AddressHalves, WellFormed}
 use Rattle.trie.proofs.Planes.{announced_good, announced, no_room}
 use Rattle.patricia.proofs.Refusals.{given, refused_none, refused_as}
-use Rattle.patricia.proofs.patricia.PatriciaTable.announce.Goals as goal
+use Rattle.patricia.proofs.patricia.PatriciaOnePlane.insert.Goals as goal
 
 pub returns : goal.returns
 returns g c =
@@ -30,9 +29,9 @@ returns g c =
     (subst (λ (n : ℕ). Announced was.nodes.now was.used n (key c.key_of-key.result) c.to_halves-halves.result new (Some v)) c.room_in-room.ensures
     (subst (Announced was.nodes.now was.used c.room_in-room.result (key c.key_of-key.result) c.to_halves-halves.result new) made c.insert.ensures)) in
     record {
-      valid = announced_good _ _ _ c.requires p _ _ hop _ _ long ok put;
-      does = single_does (λ s. routes w s.used s.nodes.now) (λ s. nodes_room (length s.nodes.now)) _ _ _ _ (ap nodes_room long)
-          (announced _ _ _ c.requires p _ _ hop _ _ _ (eqb-true _ _ (sym c.if-not-has_plane.ensures)) put);
+      well = announced_good _ _ _ c.requires p _ _ hop _ _ long ok put;
+      room = ap nodes_room long;
+      plane = announced _ _ _ c.requires p _ _ hop _ _ put;
       refused = λ e. absurd (true≢false e);
     }
 
@@ -53,8 +52,8 @@ returns-in_err-self g c =
     let error = err_from_is_err_and c.from_residual.result c.from_residual.ensures.1 in
     let refusal = refused_as _ _ _ (sym c.ok_or.ensures.value ∙ c.in_err-self.was) in
     rw (error.1, error.2, refusal) (record {
-      valid = subst (λ (ns : List Node). WellFormed w was.used ns) (sym same) c.requires;
-      does = single_does (λ s. routes w s.used s.nodes.now) (λ s. nodes_room (length s.nodes.now)) _ _ _ _ (ap (λ (ns : List Node). nodes_room (length ns)) same)
-          (no_room _ _ _ c.requires p _ _ hop _ _ (eqb-true _ _ (sym c.if-not-has_plane.ensures)) kept);
+      well = subst (λ (ns : List Node). WellFormed w was.used ns) (sym same) c.requires;
+      room = ap (λ (ns : List Node). nodes_room (length ns)) same;
+      plane = no_room _ _ _ c.requires p _ _ hop _ kept;
       refused = λ e i. record { nodes = record { ref_ptr = was.nodes.ref_ptr; ghost_name = was.nodes.ghost_name; now = same i }; used = was.used; kind = was.kind };
     })

@@ -5,7 +5,7 @@ use Rattle.trie.specs.Nodes.{holds}
 use Rattle.trie.specs.Well.{AddressHalves}
 use Rattle.trie.proofs.InUse.{in_use, held_in_use}
 use Rattle.trie.proofs.Planes.{plane_holds, held_proper}
-use Rattle.patricia.proofs.patricia.Patricia.hop_of.Goals as goal
+use Rattle.patricia.proofs.patricia.PatriciaOnePlane.hop_of.Goals as goal
 
 pub find-requires-clause-trie : goal.find-requires-clause-trie
 find-requires-clause-trie g c = in_use _ _ c.requires.trie.within c.requires.trie

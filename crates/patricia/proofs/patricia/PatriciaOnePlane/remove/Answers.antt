@@ -1,16 +1,15 @@
 use Rattle.std.proofs.Common.{◌≡◌, List, length, Some, None, sym, ap, ◌∙◌, subst}
-use Rattle.std.proofs.lemmas.Bool.{true≢false, eqb-true}
+use Rattle.std.proofs.lemmas.Bool.{true≢false}
 use Rattle.std.proofs.lemmas.Result.{err_from_is_err_and}
 use Rattle.bits.specs.Bits.{Bits}
 use Rattle.model.specs.Tables.{nodes_room}
-use Rattle.model.proofs.OnePlane.{single_does}
 use Rattle.trie.specs.declared.node.Node.{Node}
 use Rattle.trie.specs.Nodes.{key, routes}
 use Rattle.trie.specs.Changes.{Withdrawn}
 use Rattle.trie.specs.Well.{WellFormed}
 use Rattle.trie.proofs.Planes.{withdrawn_good, withdrawn, not_held}
 use Rattle.patricia.proofs.Refusals.{given, refused_none, refused_as}
-use Rattle.patricia.proofs.patricia.PatriciaTable.withdraw.Goals as goal
+use Rattle.patricia.proofs.patricia.PatriciaOnePlane.remove.Goals as goal
 
 pub returns : goal.returns
 returns g c =
@@ -23,9 +22,9 @@ returns g c =
     subst (λ (q : Bits). Withdrawn was.nodes.now was.used q new (Some v)) c.key_of-key.ensures.prefix
     (subst (Withdrawn was.nodes.now was.used (key c.key_of-key.result) new) made c.remove.ensures) in
     record {
-      valid = withdrawn_good _ _ _ c.requires _ _ _ long out;
-      does = single_does (λ s. routes g.A.Address.width s.used s.nodes.now) (λ s. nodes_room (length s.nodes.now)) _ _ _ _ (ap nodes_room long)
-          (withdrawn _ _ _ c.requires _ _ _ _ (eqb-true _ _ (sym c.if-not-has_plane.ensures)) out);
+      well = withdrawn_good _ _ _ c.requires _ _ _ long out;
+      room = ap nodes_room long;
+      plane = withdrawn _ _ _ c.requires _ _ _ out;
       refused = λ e. absurd (true≢false e);
     }
 
@@ -41,8 +40,8 @@ returns-in_err-self g c =
     let error = err_from_is_err_and c.from_residual.result c.from_residual.ensures.1 in
     let refusal = refused_as _ _ _ (sym c.ok_or.ensures.value ∙ c.in_err-self.was) in
     rw (error.1, error.2, refusal) (record {
-      valid = subst (λ (ns : List Node). WellFormed g.A.Address.width was.used ns) (sym same) c.requires;
-      does = single_does (λ s. routes g.A.Address.width s.used s.nodes.now) (λ s. nodes_room (length s.nodes.now)) _ _ _ _ (ap (λ (ns : List Node). nodes_room (length ns)) same)
-          (not_held _ _ _ c.requires _ _ _ (eqb-true _ _ (sym c.if-not-has_plane.ensures)) kept);
+      well = subst (λ (ns : List Node). WellFormed g.A.Address.width was.used ns) (sym same) c.requires;
+      room = ap (λ (ns : List Node). nodes_room (length ns)) same;
+      plane = not_held _ _ _ c.requires _ _ kept;
       refused = λ e i. record { nodes = record { ref_ptr = was.nodes.ref_ptr; ghost_name = was.nodes.ghost_name; now = same i }; used = was.used; kind = was.kind };
     })
