@@ -1,8 +1,8 @@
 pub mod Orderly
 pub mod Seeking
-pub mod Shifting
 pub mod Reaching
 pub mod Entries
 pub mod Planes
 pub mod Calls
 pub mod Nth
+pub mod Editing

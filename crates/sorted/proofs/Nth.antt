@@ -1,34 +1,35 @@
 -- The route at a place of the order. Assumes nothing.
-use Rattle.std.proofs.Common.{◌≡◌, ℕ, zero, suc, ◌<◌, ◌≤◌, true, List, [], ◌∷◌, length, drop, Some, None, Ok, Err, Result, sym, refl, ap, ◌∙◌, arith}
+use Rattle.std.specs.List.{slice_get}
+use Rattle.std.specs.Option.{option_map}
+use Rattle.std.proofs.lemmas.Option.{slice_get-map, slice_get-get_or, slice_get_past}
+use Rattle.std.proofs.Common.{map, get_or, take, ◌≡◌, ℕ, zero, suc, ◌<◌, ◌≤◌, true, List, [], ◌∷◌, length, drop, Some, None, Ok, Err, Result, sym, refl, ap, ◌∙◌, arith}
 use Rattle.bits.specs.Bits.{Bits}
 use Rattle.bits.specs.Halves.{front, Aligned, clear}
 use Rattle.bits.proofs.Fronts.{front_length, front_front, clear_front, aligned_clear, aligned_wider}
 use Rattle.address.specs.Prefixes.{checked}
 use Rattle.address.proofs.Checked.{checked_fine}
 use Rattle.sorted.specs.declared.row.Row.{Row}
-use Rattle.sorted.specs.Rows.{key, route_of, routes, nth, RowOk}
-use Rattle.sorted.specs.Places.{at}
+use Rattle.sorted.specs.Rows.{key, route_of, routes, RowOk}
 
-pub nth_here : (w n : ℕ) (rows : List Row) (k : ℕ) → n ≤ length rows → k < n → nth (routes w n rows) k ≡ Some (route_of w (at rows k))
-nth_here w zero rows k l h = absurd (omega arith)
-nth_here w (suc n) [] k l h = absurd (omega arith)
-nth_here w (suc n) (r ∷ rows) zero l h = refl
-nth_here w (suc n) (r ∷ rows) (suc k) l h = nth_here w n rows k (omega arith) (omega arith)
+module _ (w n : ℕ) (rows ys : List Row) (used : ys ≡ take n rows) where
+  route_at : (k : ℕ) → slice_get (routes w n rows) k ≡ option_map (route_of w) (slice_get ys k)
+  route_at k = ap (λ zs. slice_get (map (route_of w) zs) k) (sym used) ∙ slice_get-map (route_of w) ys k
 
-pub nth_past : (w n : ℕ) (rows : List Row) (k : ℕ) → n ≤ k → nth (routes w n rows) k ≡ None
-nth_past w zero rows k h = refl
-nth_past w (suc n) [] k h = refl
-nth_past w (suc n) (r ∷ rows) zero h = absurd (omega arith)
-nth_past w (suc n) (r ∷ rows) (suc k) h = nth_past w n rows k (omega arith)
+  pub nth_here : (k : ℕ) (row : Row) → k < length ys → row ≡ get_or ys k row → Some (route_of w row) ≡ slice_get (routes w n rows) k
+  nth_here k row l e = ap (λ r. Some (route_of w r)) e ∙ ap (option_map (route_of w)) (sym (slice_get-get_or ys k row l)) ∙ sym (route_at k)
+
+  pub nth_past : (k : ℕ) → length ys ≤ k → None ≡ slice_get (routes w n rows) k
+  nth_past k l = ap (option_map (route_of w)) (sym (slice_get_past ys k l)) ∙ sym (route_at k)
 
 -- a proper row's address and length make its prefix
-pub row_checked : (w : ℕ) (row : Row) → w ≤ 128 → RowOk w row → checked (front w row.prefix) row.len ≡ Ok (key row)
+pub row_checked : (w : ℕ) (row : Row) → w ≤ 128 → RowOk w row → checked (front w row.prefix.bits) row.prefix.len ≡ Ok (key row)
 row_checked w row l ok =
-    let n : length (front w row.prefix) ≡ w = front_length w row.prefix l in
-    let s : row.len ≤ w = ok.short in
-    let a : Aligned w row.prefix = aligned_wider row.len w row.prefix s ok.prefix_clear in
-    let c : clear (drop row.len (front w row.prefix)) ≡ true = sym (clear_front row.len w row.prefix s l a) ∙ aligned_clear row.len row.prefix ok.prefix_clear in
-    checked_fine (front w row.prefix) row.len (omega arith) c ∙ ap Ok (front_front row.len w row.prefix s)
+    let h = row.prefix.bits in
+    let n : length (front w h) ≡ w = front_length w h l in
+    let s : row.prefix.len ≤ w = ok.short in
+    let a : Aligned w h = aligned_wider row.prefix.len w h s ok.prefix_clear in
+    let c : clear (drop row.prefix.len (front w h)) ≡ true = sym (clear_front row.prefix.len w h s l a) ∙ aligned_clear row.prefix.len h ok.prefix_clear in
+    checked_fine (front w h) row.prefix.len (omega arith) c ∙ ap Ok (front_front row.prefix.len w h s)
 
 pub ok_is : {p q : Bits} → ◌≡◌ {A = Result Bits ℕ} (Ok p) (Ok q) → p ≡ q
 ok_is e = cc

@@ -1,39 +1,91 @@
--- The steps of the search for a prefix's place.
-use Rattle.std.proofs.Common.{◌≡◌, ℕ, ◌+◌, ◌<◌, ◌≤◌, true, false, ◌⊎◌, List, sym, ap, ◌∙◌, subst, inl, inr, arith}
-use Rattle.std.proofs.lemmas.Bool.{cases_eq, true≢false}
-use Rattle.bits.specs.Bits.{Bits, Order, before, same, after, order, by, equal}
-use Rattle.bits.proofs.Orders.{before_trans, equal_self}
+-- Where a binary search among the rows ends.
+use Rattle.std.proofs.Common.{◌≡◌, ℕ, ◌<◌, ◌≤◌, ◌⊎◌, List, length, Ok, Err, Result, sym, ap, ◌∙◌, subst, refl, inl, inr, arith}
+use Rattle.std.proofs.lemmas.List.{get_or_default}
+use Rattle.std.proofs.lemmas.Bool.{cases_eq}
+use Rattle.std.specs.declared.cmp.Ordering.TheVariants.{Less, Equal, Greater}
+use Rattle.std.specs.declared.cmp.Ordering.{Ordering}
+use Rattle.std.specs.Ordering.{ordering_index}
+use Rattle.std.specs.List.Sorted.{IsNonDecreasingBy, IsBinarySearchResult, IsSearchInRange}
+use Rattle.bits.specs.Bits.{Bits, Order, before, same, after, order}
+use Rattle.bits.specs.Halves.{stands}
+use Rattle.bits.proofs.Orders.{before_trans, order_self, same_is, flip_before, before≢same, before≢after, same≢after}
 use Rattle.sorted.specs.declared.row.Row.{Row}
-use Rattle.sorted.specs.Rows.{key}
-use Rattle.sorted.specs.Places.{at, InOrder}
+use Rattle.sorted.specs.Rows.{unused, key}
+use Rattle.sorted.specs.Places.{at, InOrder, StandsAt, Located}
 use Rattle.sorted.proofs.Orderly.{order_at}
 
--- what the test of a row says
-pub is_before : (o : Order) → true ≡ by o true false false → o ≡ before
-is_before before e = λ i. before
-is_before same e = absurd (true≢false e)
-is_before after e = absurd (true≢false e)
+-- an order as the library names it
+abbrev pub named : Order → Ordering
+named before = Less
+named same = Equal
+named after = Greater
 
-pub not_before : (o : Order) → false ≡ by o true false false → o ≡ before → ⊥
-not_before o e f = true≢false (sym (e ∙ ap (λ x. by x true false false) f))
+pub named_stands : (o : Ordering) (p : Order) → stands o ≡ p → o ≡ named p
+named_stands Less p e = ap named e
+named_stands Equal p e = ap named e
+named_stands Greater p e = ap named e
 
-pub unequal : (p q : Bits) → false ≡ equal p q → p ≡ q → ⊥
-unequal p q e f = true≢false (sym (e ∙ ap (equal p) (sym f) ∙ equal_self p))
+-- the orders of rising prefixes to p rise
+index_low : (o : Order) → ordering_index (named o) ≤ 2
+index_low before = omega arith
+index_low same = omega arith
+index_low after = omega arith
 
--- the rows up to one that stands before p stand before p
-pub up_to : (rows : List Row) (n : ℕ) (p : Bits) (i : ℕ) → InOrder n rows → i < n → order (key (at rows i)) p ≡ before
-    → (k : ℕ) → k < i + 1 → order (key (at rows k)) p ≡ before
-up_to rows n p i o l e k h = go (cases_eq k i)
+rises : (p q r : Bits) → order p q ≡ before → ordering_index (named (order p r)) ≤ ordering_index (named (order q r))
+rises p q r e = go (order q r) refl
   where
-    go : (k ≡ i) ⊎ (k ≡ i → ⊥) → order (key (at rows k)) p ≡ before
-    go (inl f) = subst (λ (j : ℕ). order (key (at rows j)) p ≡ before) (sym f) e
-    go (inr f) = before_trans (key (at rows k)) (key (at rows i)) p (order_at n rows o k i (omega arith) l) e
+    low : order p r ≡ before → (o : Order) → ordering_index (named (order p r)) ≤ ordering_index (named o)
+    low f o = let z : ordering_index (named (order p r)) ≡ 0 = ap (λ x. ordering_index (named x)) f in omega (arith, z)
 
--- the rows from one on that does not stand before p do not
-pub from_on : (rows : List Row) (n : ℕ) (p : Bits) (i : ℕ) → InOrder n rows → (order (key (at rows i)) p ≡ before → ⊥)
-    → (k : ℕ) → i ≤ k → k < n → order (key (at rows k)) p ≡ before → ⊥
-from_on rows n p i o e k h l f = go (cases_eq i k)
+    go : (o : Order) → order q r ≡ o → ordering_index (named (order p r)) ≤ ordering_index (named (order q r))
+    go before f = low (before_trans p q r e f) (order q r)
+    go same f = low (ap (order p) (sym (same_is q r f)) ∙ e) (order q r)
+    go after f = let z : ordering_index (named (order q r)) ≡ 2 = ap (λ x. ordering_index (named x)) f in omega (arith, z, index_low (order p r))
+
+orders_rise : (rows : List Row) (p : Bits) → InOrder rows → IsNonDecreasingBy (λ row. ordering_index (named (order (key row) p))) rows
+orders_rise rows p o i j d l h = rw (get_or_default rows i d unused (omega arith), get_or_default rows j d unused h) (go (cases_eq i j))
   where
-    go : (i ≡ k) ⊎ (i ≡ k → ⊥) → ⊥
-    go (inl g) = e (subst (λ (j : ℕ). order (key (at rows j)) p ≡ before) (sym g) f)
-    go (inr g) = e (before_trans (key (at rows i)) (key (at rows k)) p (order_at n rows o i k (omega arith) l) f)
+    go : (i ≡ j) ⊎ (i ≡ j → ⊥) → ordering_index (named (order (key (at rows i)) p)) ≤ ordering_index (named (order (key (at rows j)) p))
+    go (inl f) = let z : ordering_index (named (order (key (at rows i)) p)) ≡ ordering_index (named (order (key (at rows j)) p)) = ap (λ k. ordering_index (named (order (key (at rows k)) p))) f in omega (arith, z)
+    go (inr f) = rises (key (at rows i)) (key (at rows j)) p (order_at rows o i j (omega arith) h)
+
+is_named : (o x : Order) → named o ≡ named x → o ≡ x
+is_named o x e = back o ∙ ap stands e ∙ sym (back x)
+  where
+    back : (y : Order) → y ≡ stands (named y)
+    back before = refl
+    back same = refl
+    back after = refl
+
+-- the row of p is at the place of p
+at_own_place : (rows : List Row) (p : Bits) (i : ℕ) → InOrder rows → i < length rows → order (key (at rows i)) p ≡ same → StandsAt rows p i
+at_own_place rows p i o l e = record {
+  within = omega arith;
+  earlier = λ k h. ap (order (key (at rows k))) (sym is) ∙ order_at rows o k i h l;
+  later = λ k h m f. go k h m f (cases_eq i k);
+}
+  where
+    is : key (at rows i) ≡ p
+    is = same_is (key (at rows i)) p e
+
+    go : (k : ℕ) → i ≤ k → k < length rows → order (key (at rows k)) p ≡ before → (i ≡ k) ⊎ (i ≡ k → ⊥) → ⊥
+    go k h m f (inl g) = before≢same (sym f ∙ ap (λ j. order (key (at rows j)) p) (sym g) ∙ e)
+    go k h m f (inr g) = before≢after (sym f ∙ flip_before p (key (at rows k)) (ap (λ q. order q (key (at rows k))) (sym is) ∙ order_at rows o i k (omega arith) m))
+
+-- what a binary search by the order to p answers
+pub located : (rows : List Row) (p : Bits) → InOrder rows → (r : Result ℕ ℕ) → IsSearchInRange r (length rows)
+    → IsBinarySearchResult (λ row. named (order (key row) p)) rows r → Located rows p r
+located rows p o (Ok i) l x =
+    let e : order (key (at rows i)) p ≡ same = is_named _ same (x unused) in
+    (l, at_own_place rows p i o l e, same_is _ _ e)
+located rows p o (Err i) l x =
+    let y = x (orders_rise rows p o) in
+    let past : (k : ℕ) → i ≤ k → k < length rows → order (key (at rows k)) p ≡ after = λ k h m. is_named _ after (y.1 k unused h m) in
+    (
+      record {
+        within = l;
+        earlier = λ k h. is_named _ before (y.0 k unused (omega arith) h);
+        later = λ k h m f. before≢after (sym f ∙ past k h m);
+      },
+      λ m f. same≢after (sym (order_self (key (at rows i))) ∙ ap (order (key (at rows i))) f ∙ past i (omega arith) m),
+    )

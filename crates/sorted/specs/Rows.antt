@@ -1,5 +1,5 @@
 -- What the rows of a sorted list mean: the plane that the first of them hold, in order. The rows past those are free.
-use Rattle.std.specs.Prelude.{ℕ, zero, suc, ◌≤◌, List, [], ◌∷◌, map, length, take, Some, None, Option}
+use Rattle.std.specs.Prelude.{ℕ, ◌≤◌, List, map, length, take, Some, None, Option}
 use Rattle.std.specs.List.{AllByRecursion}
 use Rattle.bits.specs.Bits.{Bits}
 use Rattle.bits.specs.Halves.{front, Aligned, Fit}
@@ -10,11 +10,11 @@ use Rattle.sorted.specs.declared.row.Row.{Row}
 
 -- a row as an array is made of, with no bit set
 abbrev pub unused : Row
-unused = record { prefix = record { hi = 0; lo = 0 }; len = 0; hop = record { hi = 0; lo = 0 } }
+unused = record { prefix = record { bits = record { hi = 0; lo = 0 }; len = 0 }; hop = record { hi = 0; lo = 0 } }
 
 -- the prefix of a row: the first bits of its address
 abbrev pub key : Row → Bits
-key row = front row.len row.prefix
+key row = front row.prefix.len row.prefix.bits
 
 -- the route that a row holds in a table of addresses of w bits
 abbrev pub route_of : ℕ → Row → Route Stored
@@ -26,10 +26,10 @@ routes w n rows = map (route_of w) (take n rows)
 
 -- a row in use: a prefix of at most w bits and a next hop of w bits, nothing set beyond either
 pub record RowOk (w : ℕ) (row : Row) : Type 0 where
-  pub short : row.len ≤ w
-  pub prefix_clear : Aligned row.len row.prefix
+  pub short : row.prefix.len ≤ w
+  pub prefix_clear : Aligned row.prefix.len row.prefix.bits
   pub hop_clear : Aligned w row.hop
-  pub prefix_fits : Fit row.prefix
+  pub prefix_fits : Fit row.prefix.bits
   pub hop_fits : Fit row.hop
 
 -- n rows are in use: no more than may be, in rising order, and each a proper row
@@ -42,15 +42,9 @@ pub record WellFormed (w n : ℕ) (rows : List Row) : Type 0 where
 abbrev pub entry_of : Row → Route Row
 entry_of row = route (key row) row
 
--- the first n rows as a map from prefixes to rows, whatever the width of the addresses
-abbrev pub entries : ℕ → List Row → Map Row
-entries n rows = map entry_of (take n rows)
-
--- the route at place i of a plane, if it has so many
-abbrev pub nth : Plane → ℕ → Option (Route Stored)
-nth [] i = None
-nth (r ∷ m) zero = Some r
-nth (r ∷ m) (suc i) = nth m i
+-- the rows as a map from prefixes to rows, whatever the width of the addresses
+abbrev pub entries : List Row → Map Row
+entries rows = map entry_of rows
 
 -- a route as the code gives it: a prefix with its next hop
 abbrev pub as_route : {A P : Type 0} → (A → Bits) → (P → Bits) → Option (P × A) → Option (Route Stored)

@@ -1,7 +1,6 @@
 // The sorted list: a table over a borrowed slice of rows, in rising order of their prefixes.
 #![tactic(auto)]
 
-mod edit;
 pub mod list;
 pub mod row;
 mod search;

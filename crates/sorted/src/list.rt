@@ -1,5 +1,6 @@
-ghost use Rattle.std.specs.Prelude.{◌≡◌, ◌≤◌, [], ◌∷◌, length, ◌==◌};
-ghost use Rattle.bits.specs.Halves.{Aligned};
+ghost use Rattle.std.specs.Prelude.{◌≡◌, ◌≤◌, false, [], ◌∷◌, length, take, ◌==◌, is_ok};
+ghost use Rattle.std.specs.List.{slice_get};
+ghost use Rattle.bits.specs.Halves.{front, Aligned, Fit};
 ghost use Rattle.model.specs.Maps.{held};
 ghost use Rattle.model.specs.Longest.{answer};
 ghost use Rattle.table.specs.Meaning.{as_hop, as_answer};
@@ -8,12 +9,15 @@ ghost use Rattle.model.specs.Stack.{table as leaf};
 ghost use Rattle.model.proofs.SoundLaws.{plain_local};
 ghost use Rattle.model.proofs.RoomLaws.{rows_room as rows_law};
 ghost use Rattle.model.proofs.OnePlane.{one_described, rows_sound};
-ghost use Rattle.sorted.specs.Rows.{route_of, routes, nth, as_route, WellFormed};
+ghost use Rattle.sorted.specs.Rows.{key, route_of, routes, as_route, RowOk, WellFormed};
+ghost use Rattle.sorted.specs.Places.{InOrder, Inserted, Removed};
 
-use crate::edit::{insert, remove};
 use crate::row::Row;
-use crate::search::{best, find, row_at};
+use crate::search::{best, find, place_of};
+use crate::shift::{insert_at, remove_at};
 use address::kind::Address;
+use bits::front::Front;
+use bits::halves::Halves;
 use table::calls::Refusal;
 use table::interface::Table;
 
@@ -68,29 +72,32 @@ impl<'a, A: Address> Sorted<'a, A> {
     }
 
     // The route at place `i` of the order, from 0, if there are so many.
+    #[tactic(auto, using(crate::proofs::Nth::nth_here, crate::proofs::Nth::nth_past))]
     pub fn route(&self, i: usize) -> Option<(A::Prefix, A)>
         requires { WellFormed A.Address.width self.now.used self.now.rows.now }
-        ensures { as_route A.Address.bits A.Address.pbits result ≡ nth (routes A.Address.width self.now.used self.now.rows.now) i }
+        ensures { as_route A.Address.bits A.Address.pbits result ≡ slice_get (routes A.Address.width self.now.used self.now.rows.now) i }
     {
-        let Some(row) = row_at(self.rows, self.used, i) else {
-            return None;
-        };
-        let hop = hop_in(row);
-        match A::from_halves(row.prefix).prefix(row.len) {
-            Ok(prefix) => Some((prefix, hop)),
-            Err(_) => unreachable(),
-        }
+        let row = *self.in_use().get(i)?;
+        Some((prefix_of::<A>(row), next_hop(row)))
+    }
+
+    // The rows in use.
+    fn in_use(&self) -> &[Row]
+        requires { WellFormed A.Address.width self.now.used self.now.rows.now }
+        ensures rows { result.now ≡ take self.now.used self.now.rows.now }
+        ensures rising { InOrder result.now }
+    {
+        &self.rows[..self.used]
     }
 
     // The hop of the prefix, if it is held.
+    #[tactic(auto, using(crate::proofs::Calls::fetched, crate::proofs::Calls::none_fetched))]
     fn hop_of(&self, prefix: A::Prefix) -> Option<A>
         requires { WellFormed A.Address.width self.now.used self.now.rows.now }
         ensures { as_hop A.Address.bits result ≡ held (routes A.Address.width self.now.used self.now.rows.now) (A.Address.pbits prefix) }
     {
-        match find(self.rows, self.used, A::first(prefix), A::len(prefix)) {
-            Some(row) => Some(hop_in(row)),
-            None => None,
-        }
+        let row = find(self.in_use(), front_of::<A>(prefix))?;
+        Some(next_hop(row))
     }
 
     // The length and hop of the longest prefix that covers the address and is no longer than the bound.
@@ -99,22 +106,99 @@ impl<'a, A: Address> Sorted<'a, A> {
         requires within { bound ≤ A.Address.width }
         ensures { as_answer A.Address.bits result ≡ answer (held (routes A.Address.width self.now.used self.now.rows.now)) (A.Address.bits address) bound }
     {
-        match best(self.rows, self.used, address.to_halves(), bound) {
-            Some(i) => {
-                let row = self.rows[i];
-                Some((row.len, hop_in(row)))
+        let rows = self.in_use();
+        let row = rows[best(rows, address.to_halves(), bound)?];
+        Some((row.prefix.len, next_hop(row)))
+    }
+
+    // Puts the row in the place of the row of its prefix, or else between the others if there is room.
+    #[tactic(auto, using(crate::proofs::Editing::written, crate::proofs::Editing::entered))]
+    fn insert(&mut self, row: Row) -> Result<(), Refusal>
+        requires valid { WellFormed A.Address.width self.old.used self.old.rows.now }
+        requires proper { RowOk A.Address.width row }
+        ensures long { length self.new.rows.now ≡ length self.old.rows.now }
+        ensures put { Inserted (usable (length self.old.rows.now)) row self.old.used self.old.rows.now self.new.used self.new.rows.now result }
+        ensures refused { is_ok result ≡ false → self.new ≡ self.old }
+    {
+        match place_of(self.in_use(), row.prefix) {
+            Ok(i) => self.rows[i] = row,
+            Err(i) => {
+                if self.used == room_in(self.rows.len()) {
+                    return Err(Refusal::NoRoom);
+                }
+                insert_at(self.rows, i, self.used, row);
+                self.used += 1;
             }
-            None => None,
         }
+        Ok(())
+    }
+
+    // Takes the row of the prefix out.
+    #[tactic(auto, using(crate::proofs::Editing::taken, crate::proofs::Editing::some_used, crate::proofs::Editing::was_held))]
+    fn remove(&mut self, prefix: Front) -> Result<(), Refusal>
+        requires valid { WellFormed A.Address.width self.old.used self.old.rows.now }
+        requires short { prefix.len ≤ 128 }
+        ensures long { length self.new.rows.now ≡ length self.old.rows.now }
+        ensures taken { Removed (front prefix.len prefix.bits) self.old.used self.old.rows.now self.new.used self.new.rows.now result }
+        ensures refused { is_ok result ≡ false → self.new ≡ self.old }
+    {
+        let Ok(i) = place_of(self.in_use(), prefix) else {
+            return Err(Refusal::NotHeld);
+        };
+        remove_at(self.rows, i, self.used);
+        self.used -= 1;
+        Ok(())
     }
 }
 
-// The next hop of a row.
-fn hop_in<A: Address>(row: Row) -> A
-    requires { Aligned A.Address.width row.hop }
-    ensures { result ≡ A.Address.joined row.hop }
+// The bits of the prefix.
+#[tactic(auto, using(bits::proofs::Fronts::prefix_front, crate::proofs::Calls::start_clear))]
+fn front_of<A: Address>(prefix: A::Prefix) -> Front
+    ensures bits { front result.len result.bits ≡ A.Address.pbits prefix }
+    ensures short { result.len ≤ A.Address.width }
+    ensures clear { Aligned result.len result.bits }
+    ensures fits { Fit result.bits }
 {
-    A::from_halves(row.hop)
+    A::front(prefix)
+}
+
+// The row of the prefix with this hop.
+fn row_of<A: Address>(prefix: A::Prefix, hop: A) -> Row
+    ensures key { key result ≡ A.Address.pbits prefix }
+    ensures hop { front A.Address.width result.hop ≡ A.Address.bits hop }
+    ensures proper { RowOk A.Address.width result }
+{
+    Row {
+        prefix: front_of::<A>(prefix),
+        hop: hop.to_halves(),
+    }
+}
+
+// The prefix of a row.
+fn prefix_of<A: Address>(row: Row) -> A::Prefix
+    requires { RowOk A.Address.width row }
+    ensures { A.Address.pbits result ≡ key row }
+{
+    let Ok(prefix) = A::from_halves(row.prefix.bits).prefix(row.prefix.len) else {
+        unreachable()
+    };
+    prefix
+}
+
+// The next hop of a row.
+fn next_hop<A: Address>(row: Row) -> A
+    requires { RowOk A.Address.width row }
+    ensures { A.Address.bits result ≡ front A.Address.width row.hop }
+{
+    hop_in(row.hop)
+}
+
+// The next hop in these halves.
+fn hop_in<A: Address>(hop: Halves) -> A
+    requires { Aligned A.Address.width hop }
+    ensures { result ≡ A.Address.joined hop }
+{
+    A::from_halves(hop)
 }
 
 // How many of so many borrowed rows are used at most.
@@ -162,34 +246,14 @@ impl<'a, A: Address> Table for Sorted<'a, A> {
         if !has_plane(plane) {
             return Err(Refusal::NoPlane);
         }
-        let row = Row {
-            prefix: A::first(prefix),
-            len: A::len(prefix),
-            hop: hop.to_halves(),
-        };
-        let used = self.used;
-        let room = room_in(self.rows.len());
-        match insert(self.rows, used, room, row) {
-            Some(used) => {
-                self.used = used;
-                Ok(())
-            }
-            None => Err(Refusal::NoRoom),
-        }
+        self.insert(row_of(prefix, hop))
     }
 
     fn withdraw(&mut self, plane: u16, prefix: A::Prefix) -> Result<(), Refusal> {
         if !has_plane(plane) {
             return Err(Refusal::NoPlane);
         }
-        let used = self.used;
-        match remove(self.rows, used, A::first(prefix), A::len(prefix)) {
-            Some(used) => {
-                self.used = used;
-                Ok(())
-            }
-            None => Err(Refusal::NotHeld),
-        }
+        self.remove(front_of::<A>(prefix))
     }
 
     fn fetch(&mut self, plane: u16, prefix: A::Prefix) -> Result<Option<A>, Refusal> {

@@ -1,17 +1,16 @@
-ghost use Rattle.std.specs.Prelude.{◌≡◌, ◌≤◌, true, false, ◌&&◌, nat_le};
-ghost use Rattle.bits.specs.Bits.{order, by, equal, covers};
-ghost use Rattle.bits.specs.Halves.{word, front};
+ghost use Rattle.std.specs.Prelude.{◌≡◌, ◌≤◌, ◌&&◌, nat_le};
+ghost use Rattle.bits.specs.Bits.{order, covers};
+ghost use Rattle.bits.specs.Halves.{word, front, stands};
 ghost use Rattle.sorted.specs.Rows.{key, unused};
 
+use bits::front::Front;
 use bits::halves::Halves;
-use bits::words;
 use std::cmp::Ordering;
 
-// A row of the list: a prefix as an address and a length, with its next hop.
+// A row of the list: a prefix with its next hop.
 #[derive(Clone, Copy)]
 pub struct Row {
-    pub prefix: Halves,
-    pub len: u8,
+    pub prefix: Front,
     pub hop: Halves,
 }
 
@@ -22,43 +21,27 @@ impl Row {
     {
         let zero = Halves { hi: 0, lo: 0 };
         Row {
-            prefix: zero,
-            len: 0,
+            prefix: Front { bits: zero, len: 0 },
             hop: zero,
         }
     }
 
-    // Whether the row stands before the prefix.
-    pub(crate) fn precedes(self, prefix: Halves, len: u8) -> bool
-        requires own { self.len ≤ 128 }
-        requires other { len ≤ 128 }
-        ensures { result ≡ by (order (key self) (front len prefix)) true false false }
+    // How the row stands to the prefix.
+    #[tactic(auto, using(crate::proofs::Orderly::front_min))]
+    pub(crate) fn order(self, prefix: Front) -> Ordering
+        requires { prefix.len ≤ 128 }
+        ensures { stands result ≡ order (key self) (front prefix.len prefix.bits) }
     {
-        match words::order(self.prefix, self.len, prefix, len) {
-            Ordering::Less => true,
-            Ordering::Equal => false,
-            Ordering::Greater => false,
-        }
-    }
-
-    // Whether the row is for this very prefix.
-    pub(crate) fn is_for(self, prefix: Halves, len: u8) -> bool
-        requires own { self.len ≤ 128 }
-        requires other { len ≤ 128 }
-        ensures { result ≡ equal (key self) (front len prefix) }
-    {
-        match words::order(self.prefix, self.len, prefix, len) {
-            Ordering::Less => false,
-            Ordering::Equal => true,
-            Ordering::Greater => false,
-        }
+        let len = self.prefix.len.min(128); // a front has no more bits
+        let own = Front { len, ..self.prefix };
+        own.order(prefix)
     }
 
     // Whether the row's prefix covers the address and is no longer than the bound.
     pub(crate) fn matches(self, address: Halves, bound: u8) -> bool
-        requires { self.len ≤ 128 }
-        ensures { result ≡ (nat_le self.len bound && covers (key self) (word address)) }
+        requires { bound ≤ 128 }
+        ensures { result ≡ (nat_le self.prefix.len bound && covers (key self) (word address)) }
     {
-        self.len <= bound && words::covers(self.prefix, self.len, address)
+        self.prefix.len <= bound && self.prefix.covers(address)
     }
 }

@@ -1,106 +1,61 @@
-ghost use Rattle.std.specs.Prelude.{◌≡◌, ℕ, ◌<◌, ◌≤◌, length};
+ghost use Rattle.std.specs.Prelude.{◌≡◌, ◌≤◌};
 ghost use Rattle.bits.specs.Halves.{word, front};
 ghost use Rattle.model.specs.Maps.{held};
 ghost use Rattle.sorted.specs.Rows.{entries};
-ghost use Rattle.sorted.specs.Places.{at, InOrder, StandsAt, Located, InMap, RowAt, LastMatch};
+ghost use Rattle.sorted.specs.Places.{InOrder, Located, InMap, LastMatch};
 
 use crate::row::Row;
+use bits::front::Front;
 use bits::halves::Halves;
 
-// Where a prefix is among the rows.
-#[derive(Clone, Copy)]
-pub enum Place {
-    // in the row at this place
-    Held(usize),
-    // in none; so many rows stand before it
-    Absent(usize),
-}
-
-// How many of the first `used` rows stand before the prefix.
-pub fn seek(rows: &[Row], used: usize, prefix: Halves, len: u8) -> usize
-    requires rising { InOrder used rows.now }
-    requires short { len ≤ 128 }
-    ensures { StandsAt rows.now used (front len prefix) result }
+// Where the prefix is among the rows: in the row at this place, or in none, and so many rows stand before it.
+pub fn locate(rows: &[Row], prefix: Front) -> Result<usize, usize>
+    requires rising { InOrder rows.now }
+    requires short { prefix.len ≤ 128 }
+    ensures { Located rows.now (front prefix.len prefix.bits) result }
 {
-    let mut low = 0;
-    let mut high = used;
-    while low < high {
-        let middle = low + (high - low) / 2;
-        if rows[middle].precedes(prefix, len) {
-            low = middle + 1;
-        } else {
-            high = middle;
-        }
-    }
-    low
+    rows.binary_search_by(|row| row.order(prefix))
 }
 
-// Where the prefix is among the first `used` rows.
-pub fn locate(rows: &[Row], used: usize, prefix: Halves, len: u8) -> Place
-    requires rising { InOrder used rows.now }
-    requires short { len ≤ 128 }
-    ensures { Located rows.now used (front len prefix) result }
-{
-    let i = seek(rows, used, prefix, len);
-    if i < used && rows[i].is_for(prefix, len) {
-        Place::Held(i)
-    } else {
-        Place::Absent(i)
-    }
-}
-
-// Where the prefix is in the map that the first `used` rows are.
+// Where the prefix is in the map that the rows are.
 #[tactic(auto, using(crate::proofs::Entries::in_map))]
-pub fn place_of(rows: &[Row], used: usize, prefix: Halves, len: u8) -> Place
-    requires rising { InOrder used rows.now }
-    requires short { len ≤ 128 }
-    ensures { InMap rows.now used (front len prefix) result }
+pub fn place_of(rows: &[Row], prefix: Front) -> Result<usize, usize>
+    requires rising { InOrder rows.now }
+    requires short { prefix.len ≤ 128 }
+    ensures { InMap rows.now (front prefix.len prefix.bits) result }
 {
-    locate(rows, used, prefix, len)
+    locate(rows, prefix)
 }
 
-// The row of the prefix, if one of the first `used` is.
-pub fn find(rows: &[Row], used: usize, prefix: Halves, len: u8) -> Option<Row>
-    requires rising { InOrder used rows.now }
-    requires short { len ≤ 128 }
-    ensures { result ≡ held (entries used rows.now) (front len prefix) }
+// The row of the prefix, if there is one.
+pub fn find(rows: &[Row], prefix: Front) -> Option<Row>
+    requires rising { InOrder rows.now }
+    requires short { prefix.len ≤ 128 }
+    ensures { result ≡ held (entries rows.now) (front prefix.len prefix.bits) }
 {
-    match place_of(rows, used, prefix, len) {
-        Place::Held(i) => Some(rows[i]),
-        Place::Absent(_) => None,
-    }
+    let Ok(i) = place_of(rows, prefix) else {
+        return None;
+    };
+    Some(rows[i])
 }
 
-// The row at place `i` of the first `used`, if there are so many.
-pub fn row_at(rows: &[Row], used: usize, i: usize) -> Option<Row>
-    requires { used ≤ length rows.now }
-    ensures { RowAt rows.now used i result }
+// The last of the rows that covers the address and is no longer than the bound.
+fn last_match(rows: &[Row], address: Halves, bound: u8) -> Option<usize>
+    requires { bound ≤ 128 }
+    ensures { LastMatch rows.now (word address) bound result }
 {
-    if i < used { Some(rows[i]) } else { None }
+    rows.iter().rposition(|row| row.matches(address, bound))
 }
 
-// The last of the first `end` rows that covers the address and is no longer than the bound.
-fn last_match(rows: &[Row], end: usize, address: Halves, bound: u8) -> Option<usize>
-    requires within { end ≤ length rows.now }
-    requires short { (k : ℕ) → k < end → (at rows.now k).len ≤ 128 }
-    ensures { LastMatch rows.now end (word address) bound result }
-{
-    for i in (0..end).rev() {
-        if rows[i].matches(address, bound) {
-            return Some(i);
-        }
-    }
-    None
-}
-
-// The last of the first `used` rows that covers the address and is no longer than the bound: no row past the place of the address's
-// first bits does.
-pub fn best(rows: &[Row], used: usize, address: Halves, bound: u8) -> Option<usize>
-    requires rising { InOrder used rows.now }
+// The last of the rows that covers the address and is no longer than the bound: no row past the place of the address's first bits does.
+#[tactic(auto, using(crate::proofs::Reaching::reaches_held, crate::proofs::Reaching::reaches_absent))]
+pub fn best(rows: &[Row], address: Halves, bound: u8) -> Option<usize>
+    requires rising { InOrder rows.now }
     requires short { bound ≤ 128 }
-    ensures { LastMatch rows.now used (word address) bound result }
+    ensures { LastMatch rows.now (word address) bound result }
 {
-    let place = seek(rows, used, address, bound);
-    let end = if place < used { place + 1 } else { used };
-    last_match(rows, end, address, bound)
+    match locate(rows, Front { bits: address, len: bound }) {
+        Ok(i) => last_match(&rows[..=i], address, bound),
+        Err(i) => last_match(&rows[..i], address, bound),
+    }
 }

@@ -1,47 +1,23 @@
 ghost use Rattle.std.specs.Prelude.{◌<◌, ◌≤◌, length};
-ghost use Rattle.sorted.specs.Places.{Opened, Closed, PutIn, TakenOut};
+ghost use Rattle.sorted.specs.Places.{PutIn, TakenOut};
 
 use crate::row::Row;
 
-// Moves the rows from `i` up to `used` one place up.
-pub fn open(rows: &mut [Row], i: usize, used: usize)
+// Puts the row in at place `i`, before the rows from there up to `used`, which move one place up.
+pub fn insert_at(rows: &mut [Row], i: usize, used: usize, row: Row)
     requires place { i ≤ used }
     requires room { used < length rows.old }
-    ensures { Opened i used rows.old rows.new }
+    ensures { PutIn i used row rows.old rows.new }
 {
-    for k in (i..used).rev() {
-        rows[k + 1] = rows[k];
-    }
-}
-
-// Moves the rows past `i` up to `used` one place down.
-pub fn close(rows: &mut [Row], i: usize, used: usize)
-    requires place { i < used }
-    requires within { used ≤ length rows.old }
-    ensures { Closed i used rows.old rows.new }
-{
-    for k in i + 1..used {
-        rows[k - 1] = rows[k];
-    }
-}
-
-// Puts the row in at place `i`, before the rows from there up to `used`. How many rows are then in use.
-pub fn insert_at(rows: &mut [Row], i: usize, used: usize, row: Row) -> usize
-    requires place { i ≤ used }
-    requires room { used < length rows.old }
-    ensures { PutIn i used row rows.old rows.new result }
-{
-    open(rows, i, used);
+    rows.copy_within(i..used, i + 1);
     rows[i] = row;
-    used + 1
 }
 
-// Takes the row at place `i` out of the first `used`. How many rows are then in use.
-pub fn remove_at(rows: &mut [Row], i: usize, used: usize) -> usize
+// Takes the row at place `i` out of the first `used`: those past it move one place down.
+pub fn remove_at(rows: &mut [Row], i: usize, used: usize)
     requires place { i < used }
     requires within { used ≤ length rows.old }
-    ensures { TakenOut i used rows.old rows.new result }
+    ensures { TakenOut i used rows.old rows.new }
 {
-    close(rows, i, used);
-    used - 1
+    rows.copy_within(i + 1..used, i);
 }
