@@ -8,14 +8,14 @@ use Rattle.bits.specs.declared.halves.Halves.{Halves}
 use Rattle.bits.proofs.Fronts.{start_aligned}
 use Rattle.model.specs.Maps.{held, put, removed}
 use Rattle.model.specs.Room.{fits_rows}
-use Rattle.model.specs.Machine.{Hop, Plane, on, announce, withdraw, done, refused}
+use Rattle.model.specs.Machine.{Hop, Plane, on, announce, withdraw, done}
 use Rattle.model.specs.Tables.{usable, rows_room}
 use Rattle.model.proofs.OnePlane.{Single, announce_done, announce_full, withdraw_done, withdraw_absent}
 use Rattle.model.proofs.Mapped.{made}
 use Rattle.table.specs.declared.calls.Refusal.{Refusal}
 use Rattle.table.specs.Meaning.{of_update}
 use Rattle.sorted.specs.declared.row.Row.{Row}
-use Rattle.sorted.specs.Rows.{key, route_of, routes, RowOk, WellFormed, entries}
+use Rattle.sorted.specs.Rows.{key, route_of, routes, WellFormed, entries}
 use Rattle.sorted.specs.Places.{Inserted, Removed}
 use Rattle.sorted.proofs.Planes.{hop_of, plane_holds, inserted_plane, full, removed_plane}
 

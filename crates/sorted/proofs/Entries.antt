@@ -1,5 +1,5 @@
 -- The place of a prefix among the rows: what is held there, and what writing, putting in and taking out a row means for the map that the rows are.
-use Rattle.std.proofs.Common.{◌≡◌, ℕ, ◌<◌, List, map, length, get_or, take, drop, set, Some, Ok, Err, Result, sym, ap, ◌∙◌, subst, arith}
+use Rattle.std.proofs.Common.{◌≡◌, ℕ, ◌<◌, List, length, get_or, take, drop, set, Some, Ok, Err, Result, sym, ap, ◌∙◌, subst, arith}
 use Rattle.std.specs.List.{insert}
 use Rattle.std.proofs.lemmas.List.{length-take-le, get_or-take, take-map, map-set}
 use Rattle.std.proofs.ByRecursion.{All-from_get_or, All-map}

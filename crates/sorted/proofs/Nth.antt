@@ -2,7 +2,7 @@
 use Rattle.std.specs.List.{slice_get}
 use Rattle.std.specs.Option.{option_map}
 use Rattle.std.proofs.lemmas.Option.{slice_get-map, slice_get-get_or, slice_get_past}
-use Rattle.std.proofs.Common.{map, get_or, take, ◌≡◌, ℕ, zero, suc, ◌<◌, ◌≤◌, true, List, [], ◌∷◌, length, drop, Some, None, Ok, Err, Result, sym, refl, ap, ◌∙◌, arith}
+use Rattle.std.proofs.Common.{map, get_or, take, ◌≡◌, ℕ, ◌<◌, ◌≤◌, true, List, length, drop, Some, None, Ok, Err, Result, sym, ap, ◌∙◌, arith}
 use Rattle.bits.specs.Bits.{Bits}
 use Rattle.bits.specs.Halves.{front, Aligned, clear}
 use Rattle.bits.proofs.Fronts.{front_length, front_front, clear_front, aligned_clear, aligned_wider}

@@ -1,5 +1,5 @@
 -- Where a binary search among the rows ends.
-use Rattle.std.proofs.Common.{◌≡◌, ℕ, ◌<◌, ◌≤◌, ◌⊎◌, List, length, Ok, Err, Result, sym, ap, ◌∙◌, subst, refl, inl, inr, arith}
+use Rattle.std.proofs.Common.{◌≡◌, ℕ, ◌<◌, ◌≤◌, ◌⊎◌, List, length, Ok, Err, Result, sym, ap, ◌∙◌, refl, inl, inr, arith}
 use Rattle.std.proofs.lemmas.List.{get_or_default}
 use Rattle.std.proofs.lemmas.Bool.{cases_eq}
 use Rattle.std.specs.declared.cmp.Ordering.TheVariants.{Less, Equal, Greater}
@@ -80,8 +80,7 @@ located rows p o (Ok i) l x =
     (l, at_own_place rows p i o l e, same_is _ _ e)
 located rows p o (Err i) l x =
     let y = x (orders_rise rows p o) in
-    let past : (k : ℕ) → i ≤ k → k < length rows → order (key (at rows k)) p ≡ after = λ k h m. is_named _ after (y.1 k unused h m) in
-    (
+    let past : (k : ℕ) → i ≤ k → k < length rows → order (key (at rows k)) p ≡ after = λ k h m. is_named _ after (y.1 k unused h m) in (
       record {
         within = l;
         earlier = λ k h. is_named _ before (y.0 k unused (omega arith) h);

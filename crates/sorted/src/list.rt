@@ -17,22 +17,17 @@ use crate::search::{best, find, place_of};
 use crate::shift::{insert_at, remove_at};
 use address::kind::Address;
 use bits::front::Front;
-use bits::halves::Halves;
+use std::marker::PhantomData;
 use table::calls::Refusal;
 use table::interface::Table;
-
-// The list has one plane, number 0.
-const PLANES: u16 = 1;
-
-// Of borrowed rows no more than so many are used.
-const MOST: usize = 65535;
+use table::one_plane::{PLANES, has_plane, hop_in, room_in};
 
 // A sorted list of routes in borrowed rows: the first `used` hold one route each, in rising order of their prefixes.
 #[derive(Drop)]
 pub struct Sorted<'a, A: Address> {
     rows: &'a mut [Row],
     used: usize,
-    kind: [A; 0],
+    kind: PhantomData<A>,
 }
 
 impl<'a, A: Address> Sorted<'a, A> {
@@ -46,7 +41,7 @@ impl<'a, A: Address> Sorted<'a, A> {
         Sorted {
             rows,
             used: 0,
-            kind: [],
+            kind: PhantomData,
         }
     }
 
@@ -191,28 +186,6 @@ fn next_hop<A: Address>(row: Row) -> A
     ensures { A.Address.bits result ≡ front A.Address.width row.hop }
 {
     hop_in(row.hop)
-}
-
-// The next hop in these halves.
-fn hop_in<A: Address>(hop: Halves) -> A
-    requires { Aligned A.Address.width hop }
-    ensures { result ≡ A.Address.joined hop }
-{
-    A::from_halves(hop)
-}
-
-// How many of so many borrowed rows are used at most.
-fn room_in(rows: usize) -> usize
-    ensures { result ≡ usable rows }
-{
-    rows.min(MOST)
-}
-
-// Whether the list has the plane.
-fn has_plane(plane: u16) -> bool
-    ensures { result ≡ (plane == 0) }
-{
-    plane < PLANES
 }
 
 impl<'a, A: Address> Table for Sorted<'a, A> {

@@ -54,7 +54,13 @@ pub fn best(rows: &[Row], address: Halves, bound: u8) -> Option<usize>
     requires short { bound ≤ 128 }
     ensures { LastMatch rows.now (word address) bound result }
 {
-    match locate(rows, Front { bits: address, len: bound }) {
+    match locate(
+        rows,
+        Front {
+            bits: address,
+            len: bound,
+        },
+    ) {
         Ok(i) => last_match(&rows[..=i], address, bound),
         Err(i) => last_match(&rows[..i], address, bound),
     }

@@ -1,6 +1,4 @@
 use Rattle.sorted.proofs.Planes.{longest_found, none_longest}
-use Rattle.std.proofs.Common.{Some, ap, ◌∙◌}
-use Rattle.sorted.specs.Places.{at}
 use Rattle.sorted.proofs.list.Sorted.longest.Goals as goal
 
 pub returns-in_err-row : goal.returns-in_err-row
