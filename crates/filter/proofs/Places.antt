@@ -1,7 +1,10 @@
 -- Rules in the places of a policy, one after the other. Assumes nothing.
-use Rattle.std.proofs.Common.{◌≡◌, ℕ, zero, suc, ◌+◌, ◌-◌, ◌<◌, true, false, List, [], ◌∷◌, ◌++◌, map, length, get_or, take, drop, set, replicate, Some, None, Option, sym, refl, ap, ◌∙◌, append_assoc, add-one, arith, drop-cons}
+use Rattle.std.proofs.Common.{◌≡◌, ℕ, zero, suc, ◌+◌, ◌<◌, true, false, List, [], ◌∷◌, map, length, get_or, Some, None, Option, refl, arith, Bool, cond, not, nat_lt, zero-add, add-zero, ◌≤◌, option_map, slice_get, subst}
 use Rattle.std.proofs.lemmas.Bool.{true≢false}
-use Rattle.std.proofs.lemmas.List.{length-map, length-take-le, set-append_right, length_push, map_more, map_push}
+use Rattle.std.proofs.lemmas.Bool.Decides.{nat_tests}
+use Rattle.std.specs.List.{position, position_or_len}
+use Rattle.std.specs.Fn.{Called, Mut}
+use Rattle.std.specs.Array.{IsFromFnResultFrom, IsFromFnResult}
 use Rattle.bits.specs.Bits.{Bits}
 use Rattle.model.specs.Views as views
 use Rattle.model.specs.Views.{permits}
@@ -9,16 +12,19 @@ use Rattle.filter.specs.declared.entry.Entry.{Entry}
 use Rattle.filter.specs.Rules.{entry_rule, well_formed}
 use Rattle.filter.specs.Policies.{rules_in, ends, permitted, first_bad}
 
-module _ {X : Type 0} (xs : List X) (i : ℕ) (x : X) (l : i < length xs) (e : x ≡ get_or xs i x) where
-  here : drop i xs ≡ x ∷ drop (i + 1) xs
-  here = drop-cons xs i x l ∙ rw (← e, add-one) refl
+module _ {X : Type 0} (w : ℕ) (f : X → views.Rule) where
+  -- the same search, with places counted from i
+  bad_from : (i : ℕ) (xs : List X) → first_bad w i (map f xs) ≡ cond (nat_lt (position_or_len (λ x. not (well_formed w (f x))) xs) (length xs)) (Some (i + position_or_len (λ x. not (well_formed w (f x))) xs)) None
+  bad_from i [] = refl
+  bad_from i (x ∷ xs) = go (bad_from (suc i) xs) (well_formed w (f x)) refl
+    where
+      go : first_bad w (suc i) (map f xs) ≡ cond (nat_lt (position_or_len (λ x. not (well_formed w (f x))) xs) (length xs)) (Some (suc i + position_or_len (λ x. not (well_formed w (f x))) xs)) None → (b : Bool) → well_formed w (f x) ≡ b → first_bad w i (map f (x ∷ xs)) ≡ cond (nat_lt (position_or_len (λ x. not (well_formed w (f x))) (x ∷ xs)) (length (x ∷ xs))) (Some (i + position_or_len (λ x. not (well_formed w (f x))) (x ∷ xs))) None
+      go h true e = grind (arith, nat_tests)
+      go h false e = grind (arith, nat_tests)
 
-  module _ (w : ℕ) (f : X → views.Rule) where
-    pub bad_here : well_formed w (f x) ≡ false → first_bad w i (map f (drop i xs)) ≡ Some i
-    bad_here b = ap (λ ys. first_bad w i (map f ys)) here ∙ rw b refl
-
-    pub bad_later : well_formed w (f x) ≡ true → first_bad w (i + 1) (map f (drop (i + 1) xs)) ≡ first_bad w i (map f (drop i xs))
-    bad_later b = sym (ap (λ ys. first_bad w i (map f ys)) here ∙ rw (b, ← add-one i) refl)
+  -- the first bad rule is at the first place whose rule is not well-formed
+  pub first_bad_at : (xs : List X) → first_bad w 0 (map f xs) ≡ position (λ x. not (well_formed w (f x))) xs
+  first_bad_at xs = rw zero-add at (bad_from 0 xs)
 
 module _ (p : Bits) where
   -- the first place where the search ends decides
@@ -35,51 +41,24 @@ module _ (p : Bits) where
   decided_nowhere (None ∷ xs) before = absurd (true≢false (before 0 (omega arith)))
   decided_nowhere (Some e ∷ xs) before = rw (before 0 (omega arith)) (decided_nowhere xs (λ k h. before (suc k) (omega arith)))
 
--- these entries and then empty places, n in all
-abbrev filled : List Entry → ℕ → List (Option Entry)
-filled es n = map (λ e. Some e) es ++ replicate (n - length es) None
+-- a list that was made by calls of a function, which it leaves as it is: what each call gives, the list has at its number
+module _ {F B : Type 0} (g : Mut F (ℕ × Unit {0}) B) (f : F) (R : ℕ → B → Type 0) (each : (i : ℕ) (y : B) (q : F) → Called g f (i, tt) y q → (q ≡ f) × R i y) where
+  made_from : (n i : ℕ) (p : F) → p ≡ f → (ys : List B) → IsFromFnResultFrom g p ys i n → (k : ℕ) (d : B) → k < n → R (i + k) (get_or ys (i + k) d)
+  made_from zero i p e ys m k d l = absurd (omega arith)
+  made_from (suc n) i p e ys m zero d l = rw (add-zero, m.2.1 d) (each i m.1 m.0 (rw e at m.3)).1
+  made_from (suc n) i p e ys m (suc k) d l =
+      let at = made_from n (i + 1) m.0 (each i m.1 m.0 (rw e at m.3)).0 ys m.4 k d (omega arith) in
+      let P : ℕ → Type 0 = λ j. R j (get_or ys j d) in subst P (omega arith) at
 
-filled_more : (es : List Entry) (n : ℕ) (x : Entry) → length es < n → set (filled es n) (length es) (Some x) ≡ filled (es ++ (x ∷ [])) n
-filled_more es n x m =
-    let some : Entry → Option Entry = λ e. Some e in
-    let i = length es in
-    let front = map some es in
-    let back : List (Option Entry) = replicate (n - (i + 1)) None in
-    let k : length front ≡ i = length-map es some in
-    let z : i - i ≡ 0 = omega arith in
-    let s : n - i ≡ suc (n - (i + 1)) = omega arith in
-    let r : ◌≡◌ {A = List (Option Entry)} (replicate (n - i) None) (None ∷ back) = ap (λ j. replicate j None) s in
-    let p : set (replicate (n - i) None) (i - i) (Some x) ≡ Some x ∷ back = rw (r, z) refl in
-    let j : length (es ++ (x ∷ [])) ≡ i + 1 = length_push es x in
-    set-append_right front (replicate (n - i) None) i i (Some x) k (omega arith)
-    ∙ ap (λ t. front ++ t) p
-    ∙ sym (append_assoc front (Some x ∷ []) back)
-    ∙ rw (map_push some es x, j) refl
+-- the same for such a list as a whole
+pub made_at : {F B : Type 0} (g : Mut F (ℕ × Unit {0}) B) (f : F) (ys : List B) (n : ℕ) → IsFromFnResult g f ys n → (R : ℕ → B → Type 0) → ((i : ℕ) (y : B) (q : F) → Called g f (i, tt) y q → (q ≡ f) × R i y) → (k : ℕ) (d : B) → k < n → R k (get_or ys k d)
+made_at g f ys n m R each k d l = let at = made_from g f R each n 0 f refl ys m.each k d l in let P : ℕ → Type 0 = λ j. R j (get_or ys j d) in subst P (omega arith) at
 
-rules_filled : (es : List Entry) (k : ℕ) → rules_in (map (λ e. Some e) es ++ replicate k None) ≡ map entry_rule es
-rules_filled [] zero = refl
-rules_filled [] (suc k) = refl
-rules_filled (e ∷ es) k = ap (λ t. entry_rule e ∷ t) (rules_filled es k)
-
--- the places hold these rules, in their order
-pub record Holds (places : List (Option Entry)) (n : ℕ) (rs : List views.Rule) : Type 0 where
-  pub entries : List Entry
-  pub as_placed : places ≡ filled entries n
-  pub as_rules : map entry_rule entries ≡ rs
-
-pub holds_none : (n : ℕ) → Holds (replicate n None) n []
-holds_none n = record { entries = []; as_placed = ap (λ k. replicate k None) (let e : n ≡ n - 0 = omega arith in e); as_rules = refl }
-
-pub holds_rules : (ps : List (Option Entry)) (n : ℕ) (rs : List views.Rule) → Holds ps n rs → rules_in ps ≡ rs
-holds_rules ps n rs h = ap rules_in h.as_placed ∙ rules_filled h.entries _ ∙ h.as_rules
-
-module _ {X : Type 0} (f : X → views.Rule) (xs : List X) (i n : ℕ) (x : X) (l : i < length xs) (m : i < n) (e : x ≡ get_or xs i x) where
-  pub holds_more : (ps qs : List (Option Entry)) (y : Entry) → Holds ps n (map f (take i xs)) → entry_rule y ≡ f x → qs ≡ set ps i (Some y) → Holds qs n (map f (take (i + 1) xs))
-  holds_more ps qs y h k t =
-      let es = h.entries in
-      let a : length es ≡ i = sym (length-map es entry_rule) ∙ ap length h.as_rules ∙ length-map (take i xs) f ∙ length-take-le i xs (omega arith) in
-      record {
-        entries = es ++ (y ∷ []);
-        as_placed = t ∙ ap (λ zs. set zs i (Some y)) h.as_placed ∙ ap (λ j. set (filled es n) j (Some y)) (sym a) ∙ filled_more es n y (omega arith);
-        as_rules = map_push entry_rule es y ∙ ap (λ zs. zs ++ (entry_rule y ∷ [])) h.as_rules ∙ ap (λ r. map f (take i xs) ++ (r ∷ [])) (k ∙ ap f e) ∙ sym (map_more f xs i x l);
-      }
+-- places that hold these rules, in their order
+pub rules_held : {X : Type 0} (f : X → views.Rule) (ps : List (Option Entry)) (xs : List X) → length xs ≤ length ps → ((k : ℕ) → k < length ps → option_map entry_rule (get_or ps k None) ≡ option_map f (slice_get xs k)) → rules_in ps ≡ map f xs
+rules_held f [] [] l h = refl
+rules_held f [] (x ∷ xs) l h = absurd (omega arith)
+rules_held f (None ∷ ps) [] l h = refl
+rules_held f (Some e ∷ ps) [] l h = let a = h 0 (omega arith) in cc
+rules_held f (None ∷ ps) (x ∷ xs) l h = let a = h 0 (omega arith) in cc
+rules_held f (Some e ∷ ps) (x ∷ xs) l h = let a = h 0 (omega arith) in let b = rules_held f ps xs (omega arith) (λ k m. h (suc k) (omega arith)) in cc

@@ -7,8 +7,9 @@ ghost use Rattle.filter.specs.Policies.{rules_of};
 ghost use Rattle.filter.specs.Verdicts.{AskedOnce};
 
 use crate::policy::Policy;
-use crate::verdict::{Verdict, judge, too_long};
+use crate::verdict::{judge, too_long};
 use address::kind::Address;
+use std::ops::ControlFlow;
 use table::calls::Refusal;
 use table::interface::Table;
 
@@ -79,10 +80,9 @@ impl<T: Table> Table for Filter<T> {
         }
         let mut longest = bound;
         loop {
-            let verdict = self.ask(address, longest)?;
-            match verdict {
-                Verdict::Answer(answer) => return Ok(answer),
-                Verdict::Ask(below) => longest = below,
+            match self.ask(address, longest)? {
+                ControlFlow::Break(answer) => return Ok(answer),
+                ControlFlow::Continue(below) => longest = below,
             }
         }
     }
@@ -101,26 +101,27 @@ impl<T: Table> Filter<T> {
         Filter { inner, policy }
     }
 
-    // Asks the table below once, and judges its answer.
+    // Asks the table below once: a break with the answer that stands, or the bound at which to ask again.
     #[tactic(auto, using(crate::proofs::Bounds::answer_at_most))]
-    fn ask(&mut self, address: T::Addr, bound: u8) -> Result<Verdict<T::Addr>, Refusal>
+    fn ask(
+        &mut self,
+        address: T::Addr,
+        bound: u8,
+    ) -> Result<ControlFlow<Option<(u8, T::Addr)>, u8>, Refusal>
         requires { T.Table.valid self.old.inner }
         ensures valid { T.Table.valid self.new.inner }
         ensures policy { self.new.policy ≡ self.old.policy }
         ensures once { AskedOnce T.Addr.Address.bits (rules_of self.old.policy) (T.Addr.Address.bits address) (Does T.Table.planes T.Table.view T.Table.room T.Table.stack self.old.inner self.new.inner (lookup (T.Addr.Address.bits address) bound)) result }
     {
-        match self.inner.lookup(address, bound) {
-            Ok(found) => Ok(judge(&self.policy.rules, address, found)),
-            Err(refusal) => Err(refusal),
-        }
+        let found = self.inner.lookup(address, bound)?;
+        Ok(judge(&self.policy.rules, address, found))
     }
 
     // The table below, exactly as it stands.
     pub fn into_inner(self) -> T
         ensures { result ≡ self.inner }
     {
-        let Filter { inner, policy: _ } = self;
-        inner
+        self.inner
     }
 
     // Another policy before the same table.

@@ -27,7 +27,7 @@ pub(crate) fn keep<A: Address>(rule: Rule<A::Prefix>) -> Entry
 fn in_range(ge: u8, le: u8, n: u8) -> bool
     ensures { result ≡ (nat_le ge n && nat_le n le) }
 {
-    ge <= n && n <= le
+    (ge..=le).contains(&n)
 }
 
 // Whether the address's prefix of `n` bits is at or beneath the entry's.
@@ -52,20 +52,14 @@ fn ends_search<A: Address>(place: Option<Entry>, address: A, n: u8) -> bool
     requires { n ≤ A.Address.width }
     ensures { result ≡ ends place (take n (A.Address.bits address)) }
 {
-    match place {
-        None => true,
-        Some(entry) => matches_route(entry, address, n),
-    }
+    place.is_none_or(|entry| matches_route(entry, address, n))
 }
 
 // Whether the place where the search ends permits the route: an empty one denies it.
 fn permits_at(place: Option<Entry>) -> bool
     ensures { result ≡ permitted place }
 {
-    match place {
-        None => false,
-        Some(entry) => entry.action.allows(),
-    }
+    place.is_some_and(|entry| entry.action.allows())
 }
 
 // The first place where the search ends, or the number of places.
@@ -75,6 +69,7 @@ fn first_end<A: Address>(rules: &[Option<Entry>], address: A, n: u8) -> usize
     ensures before { (k : ℕ) → k < result → ends (slice_index_or rules.now k None) (take n (A.Address.bits address)) ≡ false }
     ensures here { result < length rules.now → ends (slice_index_or rules.now result None) (take n (A.Address.bits address)) ≡ true }
 {
+    // a rule of the project: the policy is a loop over its rules by index, left at the first match
     for i in 0..rules.len() {
         if ends_search(rules[i], address, n) {
             return i;

@@ -1,11 +1,12 @@
-ghost use Rattle.std.specs.Prelude.{◌≡◌, ◌<◌, ◌≤◌, map, length, slice_set};
-ghost use Rattle.filter.specs.Rules.{as_rule};
-ghost use Rattle.filter.specs.Policies.{rules_in, first_bad, refusal, outcome, checked_policy};
+ghost use Rattle.std.specs.Prelude.{◌≡◌, ◌≤◌, map, not, position, length, option_map, slice_get};
+ghost use Rattle.filter.specs.Rules.{as_rule, entry_rule, well_formed};
+ghost use Rattle.filter.specs.Policies.{rules_in, refusal, outcome, checked_policy};
 
 use crate::entry::Entry;
 use crate::matching::keep;
 use crate::rule::{Rule, is_well_formed};
 use address::kind::Address;
+use std::array;
 
 // A policy has at most so many rules.
 const MOST_RULES: usize = 64;
@@ -34,56 +35,47 @@ impl PolicyRefusal {
 // A policy: its rules in order, up to the first empty place.
 #[derive(Drop)]
 pub struct Policy<A: Address> {
-    pub(crate) rules: [Option<Entry>; 64],
+    pub(crate) rules: [Option<Entry>; MOST_RULES],
     kind: [A; 0],
 }
 
 // The place of the first rule that is not well-formed, if there is one.
 fn first_bad_rule<A: Address>(rules: &[Rule<A::Prefix>]) -> Option<usize>
-    ensures { result ≡ first_bad A.Address.width 0 (map (as_rule A.Address.pbits) rules.now) }
+    ensures { result ≡ position (λ rule. not (well_formed A.Address.width (as_rule A.Address.pbits rule))) rules.now }
 {
-    for i in 0..rules.len() {
-        if !is_well_formed::<A>(rules[i]) {
-            return Some(i);
-        }
-    }
-    None
+    rules.iter().position(|rule| !is_well_formed::<A>(*rule))
 }
 
-// Writes one place.
-fn store(places: &mut [Option<Entry>; 64], i: usize, entry: Option<Entry>)
-    requires { i < 64 }
-    ensures { places.new ≡ slice_set places.old i entry }
+// The rule at a place as a policy keeps it, if there is one.
+fn kept_at<A: Address>(rules: &[Rule<A::Prefix>], place: usize) -> Option<Entry>
+    ensures { option_map entry_rule result ≡ option_map (as_rule A.Address.pbits) (slice_get rules.now place) }
 {
-    places[i] = entry;
+    rules.get(place).map(|rule| keep::<A>(*rule))
 }
 
 // Puts the rules into places of their own, in their order.
-fn placed<A: Address>(rules: &[Rule<A::Prefix>]) -> [Option<Entry>; 64]
+fn placed<A: Address>(rules: &[Rule<A::Prefix>]) -> [Option<Entry>; MOST_RULES]
     requires { length rules.now ≤ 64 }
     ensures { rules_in result ≡ map (as_rule A.Address.pbits) rules.now }
 {
-    let mut places = [None; 64];
-    for place in 0..rules.len() {
-        store(&mut places, place, Some(keep::<A>(rules[place])));
-    }
-    places
+    array::from_fn(|place| kept_at::<A>(rules, place))
 }
 
 impl<A: Address> Policy<A> {
     // The policy of these rules, if there are at most 64 and each is well-formed.
+    #[tactic(auto, using(crate::proofs::Places::first_bad_at))]
     pub fn new(rules: &[Rule<A::Prefix>]) -> Result<Policy<A>, PolicyRefusal>
         ensures { outcome result ≡ checked_policy A.Address.pbits A.Address.width rules.now }
     {
         if rules.len() > MOST_RULES {
             return Err(PolicyRefusal::TooManyRules);
         }
-        match first_bad_rule::<A>(rules) {
-            Some(index) => Err(PolicyRefusal::BadRule { index }),
-            None => Ok(Policy {
-                rules: placed::<A>(rules),
-                kind: [],
-            }),
+        if let Some(index) = first_bad_rule::<A>(rules) {
+            return Err(PolicyRefusal::BadRule { index });
         }
+        Ok(Policy {
+            rules: placed::<A>(rules),
+            kind: [],
+        })
     }
 }

@@ -1,17 +1,11 @@
-use Rattle.std.proofs.Common.{◌<◌, map, ap, ◌∙◌, arith}
-use Rattle.std.proofs.lemmas.List.{take_all}
-use Rattle.filter.specs.Rules.{as_rule}
-use Rattle.filter.proofs.Places.{holds_none, holds_more, holds_rules}
+use Rattle.std.proofs.Common.{◌≡◌, None, ap, rules, arith, option_map, slice_get}
+use Rattle.filter.specs.Rules.{as_rule, entry_rule}
+use Rattle.filter.proofs.Places.{made_at, rules_held}
 use Rattle.filter.proofs.policy.placed.Goals as goal
-
-pub loop-place-init : goal.loop-place-init
-loop-place-init g c = holds_none 64
-
-pub loop-place-preserved : goal.loop-place-preserved
-loop-place-preserved g c =
-    let l : c.loop-place.place < 64 = omega (arith, c.requires, c.loop-place-test.true) in
-    holds_more (as_rule g.A.Address.pbits) c.args.rules.now c.loop-place.place 64 c.index-rules-place.result c.loop-place-test.true l c.index-rules-place.is c.loop-place.places _ c.keep.result c.loop-place.invariant c.keep.ensures c.store.ensures
 
 pub returns : goal.returns
 returns g c =
-    holds_rules c.loop-place.places 64 _ c.loop-place.invariant ∙ ap (map (as_rule g.A.Address.pbits)) (take_all c.loop-place.place c.args.rules.now c.loop-place-test.false)
+    let f = as_rule g.A.Address.pbits in
+    let n = c.from_fn.ensures.items.long in
+    rules_held f c.from_fn.result c.args.rules.now (omega (arith, n, c.requires))
+    (λ k l. made_at _ _ c.from_fn.result 64 c.from_fn.ensures.items (λ i y. option_map entry_rule y ≡ option_map f (slice_get c.args.rules.now i)) (λ i y q m. (ap (λ r. (r, record {})) m.met.1, let mm = m.met.0 in search rules)) k None (omega (arith, n)))
