@@ -1,6 +1,6 @@
 -- The word of two halves: its length, its fronts, and what determines the halves.
-use Rattle.std.proofs.Common.{◌≡◌, ℕ, ◌+◌, ◌-◌, ◌^◌, ◌<◌, ◌≤◌, true, false, ◌++◌, length, get_or, take, drop, replicate, sym, refl, ap, ◌∙◌, arith}
-use Rattle.std.proofs.lemmas.List.{take_at, drop_at, take-append-drop, length-append, length-take-le, take_all, length-drop, take-take, ext_get_or, drop-append-le, append_assoc, drop-drop, drop-replicate, replicate-append-replicate}
+use Rattle.std.proofs.Common.{◌≡◌, ℕ, ◌+◌, ◌-◌, ◌^◌, ◌<◌, ◌≤◌, min, true, false, ◌++◌, length, get_or, take, drop, replicate, sym, refl, ap, ◌∙◌, arith}
+use Rattle.std.proofs.lemmas.List.{take_at, drop_at, take-append-drop, length-append, length-take-le, take_all, length-drop, take-take, take_min, ext_get_or, drop-append-le, append_assoc, drop-drop, drop-replicate, replicate-append-replicate}
 use Rattle.bits.specs.Bits.{Bits, covers}
 use Rattle.bits.specs.Halves.{low_bits, word, front, clear, Aligned, Fit}
 use Rattle.bits.specs.declared.halves.Halves.{Halves}
@@ -130,3 +130,7 @@ prefix_front w n h s p e f l d = ap (λ m. front m h) f ∙ ap (front (length p)
 
 pub covers_address : (w : ℕ) (p a : Bits) (h k : Halves) → h ≡ k → length p ≤ w → a ≡ front w k → covers p (word h) ≡ covers p a
 covers_address w p a h k e l f = ap (λ (m : Halves). covers p (word m)) e ∙ sym (covers_halves p w k l) ∙ ap (covers p) (sym f)
+
+-- no front has more than all 128 bits
+pub front_min : (n : ℕ) (h : Halves) → front (min n 128) h ≡ front n h
+front_min n h = front_is _ h ∙ ap (λ k. take (min n k) (word h)) (sym (word_length h)) ∙ take_min n (word h) ∙ sym (front_is n h)

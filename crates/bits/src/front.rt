@@ -42,6 +42,18 @@ impl Front {
             .min(other.len)
     }
 
+    // The same bits, by a length of at most 128.
+    #[tactic(auto, using(crate::proofs::Fronts::front_min))]
+    pub fn capped(self) -> Front
+        ensures same { front result.len result.bits ≡ front self.len self.bits }
+        ensures short { result.len ≤ 128 }
+    {
+        Front {
+            bits: self.bits,
+            len: self.len.min(128),
+        }
+    }
+
     // The bits, with zeros after.
     pub fn masked(self) -> Halves
         requires { self.len ≤ 128 }

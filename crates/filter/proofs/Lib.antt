@@ -1,4 +1,3 @@
 pub mod Places
 pub mod Verdicts
-pub mod Capped
 pub mod Bounds

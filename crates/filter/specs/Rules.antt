@@ -19,7 +19,7 @@ as_rule pbits r = record { permit = allowed r.action; prefix = pbits r.prefix; g
 
 -- a rule as a policy keeps it
 abbrev pub entry_rule : Entry → views.Rule
-entry_rule e = record { permit = allowed e.action; prefix = front e.len e.first; ge = e.ge; le = e.le }
+entry_rule e = record { permit = allowed e.action; prefix = front e.prefix.len e.prefix.bits; ge = e.ge; le = e.le }
 
 -- prefix length ≤ ge ≤ le ≤ width
 abbrev pub well_formed : ℕ → views.Rule → Bool

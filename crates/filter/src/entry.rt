@@ -1,12 +1,11 @@
 use crate::rule::Action;
-use bits::halves::Halves;
+use bits::front::Front;
 
-// A rule as a policy keeps it: its prefix is the first `len` bits of the halves.
+// A rule as a policy keeps it: its prefix is a front.
 #[derive(Clone, Copy)]
 pub(crate) struct Entry {
     pub(crate) action: Action,
-    pub(crate) first: Halves,
-    pub(crate) len: u8,
+    pub(crate) prefix: Front,
     pub(crate) ge: u8,
     pub(crate) le: u8,
 }

@@ -8,7 +8,7 @@ ghost use Rattle.filter.specs.Policies.{rules_in, ends, permitted};
 use crate::entry::Entry;
 use crate::rule::Rule;
 use address::kind::Address;
-use bits::words;
+use bits::front::Front;
 
 // The rule as a policy keeps it.
 pub(crate) fn keep<A: Address>(rule: Rule<A::Prefix>) -> Entry
@@ -16,8 +16,7 @@ pub(crate) fn keep<A: Address>(rule: Rule<A::Prefix>) -> Entry
 {
     Entry {
         action: rule.action,
-        first: A::first(rule.prefix),
-        len: A::len(rule.prefix),
+        prefix: A::front(rule.prefix),
         ge: rule.ge,
         le: rule.le,
     }
@@ -30,29 +29,30 @@ fn in_range(ge: u8, le: u8, n: u8) -> bool
     (ge..=le).contains(&n)
 }
 
-// Whether the address's prefix of `n` bits is at or beneath the entry's.
-fn at_or_beneath<A: Address>(entry: Entry, address: A, n: u8) -> bool
-    requires { n ≤ A.Address.width }
-    ensures { result ≡ covers (front entry.len entry.first) (take n (A.Address.bits address)) }
+// Whether the route is at or beneath the entry's prefix.
+fn at_or_beneath(entry: Entry, route: Front) -> bool
+    requires { route.len ≤ 128 }
+    ensures { result ≡ covers (front entry.prefix.len entry.prefix.bits) (front route.len route.bits) }
 {
-    let len = entry.len.min(128);
-    len <= n && words::covers(entry.first, len, address.to_halves())
+    let prefix = entry.prefix.capped();
+    prefix.len <= route.len && prefix.covers(route.bits)
 }
 
-// Whether the rule matches a route to the address's prefix of `n` bits.
-fn matches_route<A: Address>(entry: Entry, address: A, n: u8) -> bool
-    requires { n ≤ A.Address.width }
-    ensures { result ≡ matches (entry_rule entry) (take n (A.Address.bits address)) }
+// Whether the rule matches the route.
+#[tactic(auto, using(bits::proofs::Fronts::front_length))]
+fn matches_route(entry: Entry, route: Front) -> bool
+    requires { route.len ≤ 128 }
+    ensures { result ≡ matches (entry_rule entry) (front route.len route.bits) }
 {
-    at_or_beneath(entry, address, n) && in_range(entry.ge, entry.le, n)
+    at_or_beneath(entry, route) && in_range(entry.ge, entry.le, route.len)
 }
 
 // Whether the search for the first match ends at this place: it is empty, or its rule matches.
-fn ends_search<A: Address>(place: Option<Entry>, address: A, n: u8) -> bool
-    requires { n ≤ A.Address.width }
-    ensures { result ≡ ends place (take n (A.Address.bits address)) }
+fn ends_search(place: Option<Entry>, route: Front) -> bool
+    requires { route.len ≤ 128 }
+    ensures { result ≡ ends place (front route.len route.bits) }
 {
-    place.is_none_or(|entry| matches_route(entry, address, n))
+    place.is_none_or(|entry| matches_route(entry, route))
 }
 
 // Whether the place where the search ends permits the route: an empty one denies it.
@@ -63,26 +63,38 @@ fn permits_at(place: Option<Entry>) -> bool
 }
 
 // The first place where the search ends, or the number of places.
-fn first_end<A: Address>(rules: &[Option<Entry>], address: A, n: u8) -> usize
-    requires { n ≤ A.Address.width }
+fn first_end(rules: &[Option<Entry>], route: Front) -> usize
+    requires { route.len ≤ 128 }
     ensures within { result ≤ length rules.now }
-    ensures before { (k : ℕ) → k < result → ends (slice_index_or rules.now k None) (take n (A.Address.bits address)) ≡ false }
-    ensures here { result < length rules.now → ends (slice_index_or rules.now result None) (take n (A.Address.bits address)) ≡ true }
+    ensures before { (k : ℕ) → k < result → ends (slice_index_or rules.now k None) (front route.len route.bits) ≡ false }
+    ensures here { result < length rules.now → ends (slice_index_or rules.now result None) (front route.len route.bits) ≡ true }
 {
     // a rule of the project: the policy is a loop over its rules by index, left at the first match
     for i in 0..rules.len() {
-        if ends_search(rules[i], address, n) {
+        if ends_search(rules[i], route) {
             return i;
         }
     }
     rules.len()
 }
 
-// Whether the first rule that matches a route to the address's prefix of `n` bits permits it; where none matches it is denied.
-pub(crate) fn first_match<A: Address>(rules: &[Option<Entry>], address: A, n: u8) -> bool
-    requires { n ≤ A.Address.width }
-    ensures { result ≡ permits (rules_in rules.now) (take n (A.Address.bits address)) }
+// Whether the first rule that matches the route permits it; where none matches it is denied.
+pub(crate) fn first_match(rules: &[Option<Entry>], route: Front) -> bool
+    requires { route.len ≤ 128 }
+    ensures { result ≡ permits (rules_in rules.now) (front route.len route.bits) }
 {
-    let i = first_end(rules, address, n);
+    let i = first_end(rules, route);
     i < rules.len() && permits_at(rules[i])
+}
+
+// The address's prefix of `n` bits, as a route.
+pub(crate) fn route_at<A: Address>(address: A, n: u8) -> Front
+    requires { n ≤ A.Address.width }
+    ensures bits { front result.len result.bits ≡ take n (A.Address.bits address) }
+    ensures short { result.len ≤ 128 }
+{
+    Front {
+        bits: address.to_halves(),
+        len: n,
+    }
 }

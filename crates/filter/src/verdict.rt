@@ -3,7 +3,7 @@ ghost use Rattle.filter.specs.Policies.{rules_in};
 ghost use Rattle.filter.specs.Verdicts.{NoLonger, verdict};
 
 use crate::entry::Entry;
-use crate::matching::first_match;
+use crate::matching::{first_match, route_at};
 use address::kind::Address;
 use std::ops::ControlFlow;
 
@@ -19,7 +19,7 @@ pub(crate) fn judge<A: Address>(
     let Some(route) = found else {
         return ControlFlow::Break(None);
     };
-    if first_match(rules, address, route.0) {
+    if first_match(rules, route_at(address, route.0)) {
         ControlFlow::Break(Some(route))
     } else if route.0 == 0 {
         ControlFlow::Break(None)
