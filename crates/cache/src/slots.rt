@@ -7,7 +7,7 @@ ghost use Rattle.cache.specs.Entries.{as_slot, as_slots, answer_in, as_hit, empt
 use crate::entry::Entry;
 use address::kind::Address;
 use address::prefixes::covers_address;
-use bits::halves::Halves;
+use bits::front::Front;
 
 // A cache has so many slots, of which it may use fewer.
 pub const SLOTS: usize = 4096;
@@ -19,14 +19,14 @@ fn low_16(value: u128) -> usize
     (value % 65536) as usize
 }
 
-// The last 16 of the first `width` bits, as a number.
-pub fn last_16(h: Halves, width: u8) -> usize
-    requires some { 16 ≤ width }
-    requires most { width ≤ 128 }
-    ensures { result ≡ number 0 (drop (width - 16) (front width h)) }
+// The last 16 of the front's bits, as a number.
+pub fn last_16(f: Front) -> usize
+    requires some { 16 ≤ f.len }
+    requires most { f.len ≤ 128 }
+    ensures { result ≡ number 0 (drop (f.len - 16) (front f.len f.bits)) }
 {
-    let whole = (u128::from(h.hi) << 64) + u128::from(h.lo);
-    low_16(whole >> (128 - width))
+    let whole = (u128::from(f.bits.hi) << 64) + u128::from(f.bits.lo);
+    low_16(whole >> (128 - f.len))
 }
 
 // The slot of a number, of `count` slots.
@@ -44,7 +44,11 @@ pub fn slot_of<A: Address>(address: A, count: usize) -> usize
     ensures which { result ≡ slot_of count (A.Address.bits address) }
     ensures below { result < count }
 {
-    modulo(last_16(address.to_halves(), A::wide()), count)
+    let whole = Front {
+        bits: address.to_halves(),
+        len: A::wide(),
+    };
+    modulo(last_16(whole), count)
 }
 
 // Whether the slots take part in the lookup: some are used, and the bound is the full width.
