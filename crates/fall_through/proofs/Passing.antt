@@ -3,7 +3,7 @@ use Rattle.std.proofs.Common.{◌≡◌, ℕ, ◌-◌, ◌<◌, ◌≤◌, false
 use Rattle.std.proofs.lemmas.Bool.{false≢true}
 use Rattle.bits.specs.Bits.{Bits}
 use Rattle.model.specs.Laws.{Does}
-use Rattle.model.specs.Machine.{Target, Act, Call, Reply, on, lookup, found}
+use Rattle.model.specs.Machine.{Act, Call, Reply, on, lookup, found}
 use Rattle.model.specs.Stack.{fall, fall_view, fall_room}
 use Rattle.model.proofs.Steps.{At, at, step_of, does_of}
 use Rattle.model.proofs.FallLaws.{fall_upper, fall_lower, fall_too_long, fall_first, fall_second}
@@ -40,10 +40,10 @@ module _ {U L A P : Type 0} (u : Ghosts U A P) (l : Ghosts L A P) where
       rw e (does_of (fall_too_long (upper_of s) (lower_of s) (u.described s.upper) (upper_of t) a b long (step_of f)))
 
   -- the upper table has the answer
-  pub first_asked : (s t : FallThrough U L A P) (a : Bits) (b : ℕ) (z : ℕ × Target) → t.lower ≡ s.lower → Does u.planes u.view u.room u.stack s.upper t.upper (lookup a b) (found (Some z)) → Falls s t (lookup a b) (found (Some z))
-  first_asked s t a b z e f =
-      let short = found_short (upper_of s) (upper_of t) a b (Some z) (step_of f) in
-      rw e (does_of (fall_first (upper_of s) (lower_of s) (u.described s.upper) (upper_of t) a b z short (step_of f)))
+  pub first_asked : (s t : FallThrough U L A P) (a : Bits) (b : ℕ) (bits : A → Bits) (x : ℕ × A) (y : Reply) → y ≡ found (Some (x.0, bits x.1)) → t.lower ≡ s.lower → Does u.planes u.view u.room u.stack s.upper t.upper (lookup a b) (found (Some (x.0, bits x.1))) → Falls s t (lookup a b) y
+  first_asked s t a b bits x y n e f =
+      let short = found_short (upper_of s) (upper_of t) a b (Some (x.0, bits x.1)) (step_of f) in
+      rw (n, e) (does_of (fall_first (upper_of s) (lower_of s) (u.described s.upper) (upper_of t) a b (x.0, bits x.1) short (step_of f)))
 
   -- the upper table has none, and the lower is asked
   pub second_asked : (s t : FallThrough U L A P) (a : Bits) (b : ℕ) (y : Reply) → Does u.planes u.view u.room u.stack s.upper t.upper (lookup a b) (found None) → Does l.planes l.view l.room l.stack s.lower t.lower (lookup a b) y → Falls s t (lookup a b) y
