@@ -1,8 +1,9 @@
-ghost use Rattle.std.specs.Prelude.{◌≡◌, ◌≤◌, false, [], ◌∷◌, length, take, ◌==◌, is_ok};
+ghost use Rattle.std.specs.Prelude.{◌≡◌, ◌≤◌, false, [], ◌∷◌, length, take, ◌≢◌, IfOk, IfErr, is_ok};
 ghost use Rattle.std.specs.List.{slice_get};
 ghost use Rattle.bits.specs.Halves.{front, Aligned, Fit};
 ghost use Rattle.model.specs.Maps.{held};
 ghost use Rattle.model.specs.Longest.{answer};
+ghost use Rattle.table.specs.declared.calls.Refusal.TheVariants.{NoPlane};
 ghost use Rattle.table.specs.Meaning.{as_hop, as_answer};
 ghost use Rattle.model.specs.Tables.{plain, usable, rows_room};
 ghost use Rattle.model.specs.Stack.{table as leaf};
@@ -146,6 +147,18 @@ impl<'a, A: Address> Sorted<'a, A> {
     }
 }
 
+// Refuses every plane but that of the list.
+fn check_plane(plane: u16) -> Result<(), Refusal>
+    ensures ok { IfOk result (λ u. plane ≡ 0) }
+    ensures refused { IfErr result (λ e. (e ≡ NoPlane) × (plane ≢ 0)) }
+{
+    if has_plane(plane) {
+        Ok(())
+    } else {
+        Err(Refusal::NoPlane)
+    }
+}
+
 // The bits of the prefix.
 #[tactic(auto, using(bits::proofs::Fronts::prefix_front, crate::proofs::Calls::start_clear))]
 fn front_of<A: Address>(prefix: A::Prefix) -> Front
@@ -216,23 +229,17 @@ impl<'a, A: Address> Table for Sorted<'a, A> {
     }
 
     fn announce(&mut self, plane: u16, prefix: A::Prefix, hop: A) -> Result<(), Refusal> {
-        if !has_plane(plane) {
-            return Err(Refusal::NoPlane);
-        }
+        check_plane(plane)?;
         self.insert(row_of(prefix, hop))
     }
 
     fn withdraw(&mut self, plane: u16, prefix: A::Prefix) -> Result<(), Refusal> {
-        if !has_plane(plane) {
-            return Err(Refusal::NoPlane);
-        }
+        check_plane(plane)?;
         self.remove(front_of::<A>(prefix))
     }
 
     fn fetch(&mut self, plane: u16, prefix: A::Prefix) -> Result<Option<A>, Refusal> {
-        if !has_plane(plane) {
-            return Err(Refusal::NoPlane);
-        }
+        check_plane(plane)?;
         Ok(self.hop_of(prefix))
     }
 

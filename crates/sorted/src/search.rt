@@ -33,9 +33,7 @@ pub fn find(rows: &[Row], prefix: Front) -> Option<Row>
     requires short { prefix.len ≤ 128 }
     ensures { result ≡ held (entries rows.now) (front prefix.len prefix.bits) }
 {
-    let Ok(i) = place_of(rows, prefix) else {
-        return None;
-    };
+    let i = place_of(rows, prefix).ok()?;
     Some(rows[i])
 }
 
@@ -54,13 +52,11 @@ pub fn best(rows: &[Row], address: Halves, bound: u8) -> Option<usize>
     requires short { bound ≤ 128 }
     ensures { LastMatch rows.now (word address) bound result }
 {
-    match locate(
-        rows,
-        Front {
-            bits: address,
-            len: bound,
-        },
-    ) {
+    let first = Front {
+        bits: address,
+        len: bound,
+    };
+    match locate(rows, first) {
         Ok(i) => last_match(&rows[..=i], address, bound),
         Err(i) => last_match(&rows[..i], address, bound),
     }

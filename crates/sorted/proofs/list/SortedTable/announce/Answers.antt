@@ -1,5 +1,4 @@
-use Rattle.std.proofs.Common.{sym, ap, length}
-use Rattle.std.proofs.lemmas.Bool.{eqb-true}
+use Rattle.std.proofs.Common.{ap, length}
 use Rattle.model.specs.Tables.{rows_room}
 use Rattle.model.proofs.OnePlane.{single_does}
 use Rattle.sorted.specs.Rows.{routes}
@@ -13,4 +12,4 @@ returns-clause-valid g c = inserted_well _ _ _ c.requires c.insert.result c.row_
 pub returns-clause-does : goal.returns-clause-does
 returns-clause-does g c =
     single_does (λ s. routes g.A.Address.width s.used s.rows.now) (λ s. rows_room (length s.rows.now)) _ _ _ _ (ap rows_room c.insert.ensures.long)
-    (announced _ _ _ c.requires c.row_of.result _ _ _ (eqb-true _ _ (sym c.if-not-has_plane.ensures)) c.row_of.ensures.key c.row_of.ensures.hop c.insert.result _ _ c.insert.ensures.put)
+    (announced _ _ _ c.requires c.row_of.result _ _ _ c.in_ok-check_plane.ensures.ok c.row_of.ensures.key c.row_of.ensures.hop c.insert.result _ _ c.insert.ensures.put)
