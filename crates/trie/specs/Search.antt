@@ -50,6 +50,22 @@ pub record Best (f : ℕ → Node) (u : ℕ) (k : Node) (r : Option ℕ) : Type 
   pub covering : Covering f u k r
   pub longest : (j : ℕ) → j < u → Under (f j) k → ((f j).hop ≢ None) → UpTo f r (f j).prefix.len
 
+-- the slot beneath slot i that is next on the way of k's prefix, or none where that goes no further or there is no node
+abbrev pub Stepped : (ℕ → Node) → Node → ℕ → Option ℕ → Type 0
+Stepped f k i None = (k.prefix.len ≤ (f i).prefix.len) ⊎ (child (node_bit k (f i).prefix.len) (f i) ≡ 65535)
+Stepped f k i (Some j) = (j ≡ child (node_bit k (f i).prefix.len) (f i)) × (j ≢ 65535)
+
+-- each route that covers the prefix of k and is at or beneath slot a is at or beneath slot i
+pub record Reaches (f : ℕ → Node) (u : ℕ) (k : Node) (a i : ℕ) : Type 0 where
+  pub slot : i < u
+  pub lower : (f a).prefix.len ≤ (f i).prefix.len
+  pub rest : (j : ℕ) → j < u → Under (f j) k → ((f j).hop ≢ None) → Under (f a) (f j) → Under (f i) (f j)
+
+-- the slot of the first route on the way from slot a on, or none where no route at or beneath slot a covers the prefix of k
+abbrev pub First : (ℕ → Node) → ℕ → Node → ℕ → Option ℕ → Type 0
+First f u k a None = (j : ℕ) → j < u → Under (f j) k → ((f j).hop ≢ None) → Under (f a) (f j) → ⊥
+First f u k a (Some i) = Reaches f u k a i × ((f i).hop ≢ None)
+
 -- a lookup has come to slot i, with the longest route r of those that are not at or beneath slot i
 pub record Scan (f : ℕ → Node) (u : ℕ) (k : Node) (i : ℕ) (r : Option ℕ) : Type 0 where
   pub slot : i < u

@@ -1,9 +1,9 @@
-ghost use Rattle.std.specs.Prelude.{◌≡◌, ◌<◌, ◌≤◌, not, ◌&&◌, ◌||◌, length, if◌then◌else◌, Some, None, ◌==◌, nat_le};
+ghost use Rattle.std.specs.Prelude.{◌≡◌, ◌<◌, ◌≤◌, ◌&&◌, length, None, ◌==◌, nat_le};
 ghost use Rattle.bits.specs.Bits.{covers};
 ghost use Rattle.bits.specs.Halves.{word, front};
 ghost use Rattle.trie.specs.Nodes.{at, key as prefix_of, holds, unlinked as fresh};
 ghost use Rattle.trie.specs.Trie.{Trie, Compressed};
-ghost use Rattle.trie.specs.Search.{Found, Located, Best};
+ghost use Rattle.trie.specs.Search.{Found, Located, Stepped, First, Best};
 
 use crate::links::child;
 use crate::node::{NIL, Node};
@@ -82,25 +82,43 @@ fn matches(prefix: Front, sought: Front) -> bool
     prefix.len <= sought.len && prefix.covers(sought.bits)
 }
 
-// Whether a lookup goes on from a node: a route that does not match has none beneath it that does, and a branch is passed unseen.
-fn passes(routed: bool, prefix: Front, sought: Front) -> bool
-    requires { prefix.len ≤ 128 }
-    ensures { result ≡ (not routed || (nat_le prefix.len sought.len && covers (front prefix.len prefix.bits) (word sought.bits))) }
+// The slot of the node beneath that is next on the way of the bits sought; none where they go no further, or there is no node.
+fn below(ns: &[Node], slot: usize, sought: Front) -> Option<usize>
+    requires slot { slot < length ns.now }
+    requires short { sought.len ≤ 128 }
+    ensures { Stepped (at ns.now) (fresh sought None) slot result }
 {
-    !routed || matches(prefix, sought)
-}
-
-// Takes the slot for the longest match, if it has a route: it lies beneath the one known.
-fn note(known: &mut Option<usize>, routed: bool, slot: usize)
-    ensures { known.new ≡ (if routed then Some slot else known.old) }
-{
-    if routed {
-        *known = Some(slot);
+    let node = &ns[slot];
+    let len = node.prefix.len;
+    if len >= sought.len {
+        return None;
+    }
+    let next = child(node, sought.bits.bit_at(len));
+    if next == NIL {
+        None
+    } else {
+        Some(next as usize)
     }
 }
 
-// The slot of the longest route that begins the bits sought. Only at routes is the prefix compared: beneath a branch that does not begin
-// them no route does.
+// The slot of the first route on the way of the bits sought from that slot on, if there is one: branches are passed unseen.
+fn route(ns: &[Node], from: usize, sought: Front) -> Option<usize>
+    requires trie { Compressed ns.now (length ns.now) }
+    requires slot { from < length ns.now }
+    requires short { sought.len ≤ 128 }
+    ensures { First (at ns.now) (length ns.now) (fresh sought None) from result }
+{
+    let mut slot = from;
+    loop {
+        if ns[slot].hop.is_some() {
+            return Some(slot);
+        }
+        slot = below(ns, slot, sought)?;
+    }
+}
+
+// The slot of the longest route that begins the bits sought. Only at routes is the prefix compared: a route that does not match has none
+// beneath it that does, and beneath a branch that does not match no route does.
 pub fn best(ns: &[Node], sought: Front) -> Option<usize>
     requires trie { Compressed ns.now (length ns.now) }
     requires short { sought.len ≤ 128 }
@@ -110,22 +128,18 @@ pub fn best(ns: &[Node], sought: Front) -> Option<usize>
     if ns.is_empty() {
         return known;
     }
-    let mut slot = 0usize;
+    let mut from = 0usize;
     loop {
-        let node = &ns[slot];
-        let prefix = node.prefix;
-        let routed = node.hop.is_some();
-        if !passes(routed, prefix, sought) {
+        let Some(slot) = route(ns, from, sought) else {
+            return known;
+        };
+        if !matches(ns[slot].prefix, sought) {
             return known;
         }
-        note(&mut known, routed, slot);
-        if prefix.len >= sought.len {
+        known = Some(slot);
+        let Some(next) = below(ns, slot, sought) else {
             return known;
-        }
-        let next = child(node, sought.bits.bit_at(prefix.len));
-        if next == NIL {
-            return known;
-        }
-        slot = next as usize;
+        };
+        from = next;
     }
 }

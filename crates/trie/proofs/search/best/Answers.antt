@@ -1,33 +1,29 @@
-use Rattle.std.proofs.Common.{length, ◌<◌, ◌≤◌, None, arith}
+use Rattle.std.proofs.Common.{◌<◌, ◌≤◌, None, arith}
 use Rattle.trie.specs.Nodes.{at, unlinked}
-use Rattle.trie.specs.Search.{Scan}
-use Rattle.trie.proofs.Scans.{failed, matched_full, matched_last, matched_next}
+use Rattle.trie.proofs.Commons.{reached, not_reached}
+use Rattle.trie.proofs.Scans.{scan_off, scan_last, scan_next, longer}
 use Rattle.trie.proofs.search.best.Goals as goal
 
-pub returns-then-not-passes : goal.returns-then-not-passes
-returns-then-not-passes c =
-    failed _ _ c.requires.trie _ _ _ c.loop-node.known _ _ c.loop-node.invariant c.passes.ensures c.is_some-routed.ensures c.if-not-passes.true
+pub returns-then-not-matches : goal.returns-then-not-matches
+returns-then-not-matches c =
+    scan_off _ _ c.requires.trie _ c.loop-slot.from c.in-Some.slot c.loop-slot.known c.loop-slot.invariant c.in-Some.ensures
+    (not_reached (at c.args.ns.now c.in-Some.slot) c.args.sought c.matches.result (c.requires.trie.trie.short _ c.in-Some.ensures.0.slot) c.matches.ensures c.if-not-matches.true)
 
-pub returns-then-prefix-sought : goal.returns-then-prefix-sought
-returns-then-prefix-sought c =
-    matched_full _ _ c.requires.trie _ _ _ _ _ _ c.loop-node.invariant c.passes.ensures c.is_some-routed.ensures c.if-not-passes.false c.note.ensures c.if-prefix-sought.true
+pub returns-in_default-below : goal.returns-in_default-below
+returns-in_default-below c =
+    scan_last _ _ c.requires.trie _ c.loop-slot.from c.in-Some.slot c.loop-slot.known c.loop-slot.invariant c.in-Some.ensures
+    (reached (at c.args.ns.now c.in-Some.slot) c.args.sought c.matches.result (c.requires.trie.trie.short _ c.in-Some.ensures.0.slot) c.matches.ensures c.if-not-matches.false)
+    c.in_default-below.ensures
 
-pub returns-then-next : goal.returns-then-next
-returns-then-next c =
-    matched_last _ _ c.requires.trie _ _ _ _ _ _ c.loop-node.invariant c.passes.ensures c.is_some-routed.ensures c.if-not-passes.false c.note.ensures
-    c.child-next.result c.bit_at.result c.bit_at.ensures c.child-next.ensures c.if-next.true
+pub loop-slot-preserved : goal.loop-slot-preserved
+loop-slot-preserved c =
+    scan_next _ _ c.requires.trie _ c.loop-slot.from c.in-Some.slot c.loop-slot.known c.loop-slot.invariant c.in-Some.ensures
+    (reached (at c.args.ns.now c.in-Some.slot) c.args.sought c.matches.result (c.requires.trie.trie.short _ c.in-Some.ensures.0.slot) c.matches.ensures c.if-not-matches.false)
+    _ c.in-Some-below.ensures
 
-next : (c : goal.Else-next) → Scan (at c.args.ns.now) (length c.args.ns.now) (unlinked c.args.sought None) c.child-next.result c.note.new.known
-    × ((at c.args.ns.now c.loop-node.slot).prefix.len < (at c.args.ns.now c.child-next.result).prefix.len)
-next c =
-    matched_next _ _ c.requires.trie _ _ _ _ _ _ c.loop-node.invariant c.passes.ensures c.is_some-routed.ensures c.if-not-passes.false c.note.ensures
-    c.child-next.result c.bit_at.result c.bit_at.ensures c.child-next.ensures c.if-next.false
-
-pub loop-node-preserved : goal.loop-node-preserved
-loop-node-preserved c = (next c).0
-
-pub loop-node-smaller : goal.loop-node-smaller
-loop-node-smaller c =
-    let short : (at c.args.ns.now c.child-next.result).prefix.len ≤ 128 = c.requires.trie.trie.short c.child-next.result (next c).0.slot in
-    let lt : (at c.args.ns.now c.loop-node.slot).prefix.len < (at c.args.ns.now c.child-next.result).prefix.len = (next c).1 in
-    omega (arith, short, lt)
+pub loop-slot-smaller : goal.loop-slot-smaller
+loop-slot-smaller c =
+    let from : (at c.args.ns.now c.loop-slot.from).prefix.len ≤ (at c.args.ns.now c.in-Some.slot).prefix.len = c.in-Some.ensures.0.lower in
+    let far : (at c.args.ns.now c.in-Some.slot).prefix.len < (at c.args.ns.now c.in-Some-below.next).prefix.len = longer _ _ c.requires.trie (unlinked c.args.sought None) c.in-Some.slot _ c.in-Some.ensures.0.slot c.in-Some-below.ensures in
+    let short : (at c.args.ns.now c.in-Some-below.next).prefix.len ≤ 128 = c.requires.trie.trie.short _ (loop-slot-preserved c).slot in
+    omega (arith, from, far, short)
