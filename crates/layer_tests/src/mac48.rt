@@ -1,23 +1,15 @@
 use address::kind::Address;
 use cache::cache::Cache;
-use fall_through::layer::FallThrough;
 use filter::layer::Filter;
 use filter::policy::Policy;
 use filter::rule::{Action, Rule};
 use kind48::mac::{Mac48, Prefix48};
 use minimal::one_route::OneRoute;
 use std::test::Fail;
-use table::calls::{Call, Refusal, Reply};
-use table::run::run;
-use test_support::{asked, compare};
-
-// An address of 48 bits.
-fn mac(bits: u64) -> Result<Mac48, Fail> {
-    match Mac48::new(bits) {
-        Some(address) => Ok(address),
-        None => Err(Fail::new("more than 48 bits")),
-    }
-}
+use table::calls::Granted::{Done, Found, Holds};
+use table::calls::{Call, Refusal};
+use test_support::steps::check;
+use test_support::values::{join, mac, policy};
 
 // A policy that denies what is beneath the prefix and permits it alone.
 fn only(prefix: Prefix48, len: u8) -> Result<Policy<Mac48>, Fail> {
@@ -27,10 +19,7 @@ fn only(prefix: Prefix48, len: u8) -> Result<Policy<Mac48>, Fail> {
         ge: len,
         le: len,
     }];
-    match Policy::<Mac48>::new(&rules) {
-        Ok(policy) => Ok(policy),
-        Err(_) => Err(Fail::new("a policy of one rule")),
-    }
+    policy(&rules)
 }
 
 // A cache over a fall-through from a filtered table to another, at 48 bits.
@@ -49,7 +38,7 @@ fn stack_at_48_bits(rt: HostRuntime) -> Result<(), Fail> {
                 prefix: narrow,
                 hop: one,
             },
-            Reply::Done,
+            Ok(Done),
         ),
         (
             Call::Announce {
@@ -57,25 +46,25 @@ fn stack_at_48_bits(rt: HostRuntime) -> Result<(), Fail> {
                 prefix: all,
                 hop: two,
             },
-            Reply::Done,
+            Ok(Done),
         ),
         (
             Call::Lookup { address, bound: 48 },
-            Reply::Found(Some((0, two))),
+            Ok(Found(Some((0, two)))),
         ),
         (
             Call::Fetch {
                 plane: 0,
                 prefix: narrow,
             },
-            Reply::Holds(Some(one)),
+            Ok(Holds(Some(one))),
         ),
         (
             Call::Withdraw {
                 plane: 0,
                 prefix: narrow,
             },
-            Reply::Done,
+            Ok(Done),
         ),
         (
             Call::Announce {
@@ -83,44 +72,39 @@ fn stack_at_48_bits(rt: HostRuntime) -> Result<(), Fail> {
                 prefix: wide,
                 hop: one,
             },
-            Reply::Done,
+            Ok(Done),
         ),
         (
             Call::Lookup { address, bound: 48 },
-            Reply::Found(Some((8, one))),
+            Ok(Found(Some((8, one)))),
         ),
         (
             Call::Lookup { address, bound: 48 },
-            Reply::Found(Some((8, one))),
+            Ok(Found(Some((8, one)))),
         ),
         (
             Call::Lookup { address, bound: 7 },
-            Reply::Found(Some((0, two))),
+            Ok(Found(Some((0, two)))),
         ),
         (
             Call::Lookup { address, bound: 49 },
-            Reply::Refused(Refusal::BoundTooLong),
+            Err(Refusal::BoundTooLong),
         ),
         (
             Call::Fetch {
                 plane: 2,
                 prefix: all,
             },
-            Reply::Refused(Refusal::NoPlane),
+            Err(Refusal::NoPlane),
         ),
     ];
-    let mut exchanges = asked(rt.alloc(), &steps)?;
     let upper = Filter::new(OneRoute::<Mac48>::new(), only(wide, 8)?);
-    match FallThrough::new(upper, OneRoute::<Mac48>::new()) {
-        Ok(both) => {
-            let mut stack = Cache::new(both, 16);
-            run(&mut stack, exchanges.as_mut_slice());
-            match stack.entry(5) {
-                Some(entry) => assert_eq!(rt; entry.answer, Some((8, one))),
-                None => return Err(Fail::new("the slot of the last 16 bits is filled")),
-            }
-        }
-        Err(_) => return Err(Fail::new("two planes are few enough")),
-    }
-    compare(exchanges.as_slice(), &steps)
+    let both = join(upper, OneRoute::<Mac48>::new())?;
+    let mut stack = Cache::new(both, 16);
+    check(rt.alloc(), &mut stack, &steps)?;
+    let entry = stack
+        .entry(5)
+        .ok_or_else(|| Fail::new("the slot of the last 16 bits is filled"))?;
+    assert_eq!(rt; entry.answer, Some((8, one)));
+    Ok(())
 }

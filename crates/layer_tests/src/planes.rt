@@ -4,30 +4,21 @@ use fall_through::layer::FallThrough;
 use minimal::one_route::OneRoute;
 use std::test::Fail;
 use table::interface::Table;
-
-// A fall-through from the one table to the other, which have few enough planes.
-macro_rules! join {
-    ($upper:expr, $lower:expr) => {
-        match FallThrough::new($upper, $lower) {
-            Ok(both) => both,
-            Err(_) => return Err(Fail::new("few enough planes")),
-        }
-    };
-}
+use test_support::values::{ip, join};
 
 // Eight planes are fine; a ninth is refused with 18, and both tables come back as they were.
 #[test]
 fn nine_planes(rt: HostRuntime) -> Result<(), Fail> {
-    let ten = Ipv4::new(0x0a00_0000).prefix(8)?;
-    let hop = Ipv4::new(0xc000_0201);
+    let ten = ip(0x0a00_0000).prefix(8)?;
+    let hop = ip(0xc000_0201);
     let one: OneRoute<Ipv4> = OneRoute::new();
-    let two = join!(one, OneRoute::<Ipv4>::new());
-    let four = join!(two, join!(OneRoute::<Ipv4>::new(), OneRoute::<Ipv4>::new()));
-    let six = join!(
+    let two = join(one, OneRoute::<Ipv4>::new())?;
+    let four = join(two, join(OneRoute::<Ipv4>::new(), OneRoute::<Ipv4>::new())?)?;
+    let six = join(
         four,
-        join!(OneRoute::<Ipv4>::new(), OneRoute::<Ipv4>::new())
-    );
-    let mut eight = join!(six, join!(OneRoute::<Ipv4>::new(), OneRoute::<Ipv4>::new()));
+        join(OneRoute::<Ipv4>::new(), OneRoute::<Ipv4>::new())?,
+    )?;
+    let mut eight = join(six, join(OneRoute::<Ipv4>::new(), OneRoute::<Ipv4>::new())?)?;
     assert_eq!(rt; eight.plane_count(), 8);
     assert_eq!(rt; eight.announce(7, ten, hop), Ok(()));
     let mut ninth: OneRoute<Ipv4> = OneRoute::new();

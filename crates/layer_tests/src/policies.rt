@@ -3,20 +3,18 @@ use address::kind::Address;
 use filter::policy::{Policy, PolicyRefusal};
 use filter::rule::{Action, Rule};
 use std::test::Fail;
+use test_support::values::ip;
 
 // Why the rules are no policy, or none.
 fn refusal(rules: &[Rule<Prefix4>]) -> Option<PolicyRefusal> {
-    match Policy::<Ipv4>::new(rules) {
-        Ok(_) => None,
-        Err(refusal) => Some(refusal),
-    }
+    Policy::<Ipv4>::new(rules).err()
 }
 
 // A rule for 10.0.0.0/8 with these lengths.
 fn rule(ge: u8, le: u8) -> Result<Rule<Prefix4>, Fail> {
     Ok(Rule {
         action: Action::Permit,
-        prefix: Ipv4::new(0x0a00_0000).prefix(8)?,
+        prefix: ip(0x0a00_0000).prefix(8)?,
         ge,
         le,
     })

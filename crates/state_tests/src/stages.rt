@@ -2,31 +2,20 @@ use address::ipv4::{Ipv4, Prefix4};
 use address::kind::Address;
 use cache::cache::Cache;
 use filter::layer::Filter;
-use filter::policy::Policy;
 use filter::rule::{Action, Rule};
 use minimal::one_route::OneRoute;
 use states::loading::Loading;
 use std::test::Fail;
-use table::calls::{Call, Exchange, Refusal, Reply};
+use table::calls::Granted::{Done, Found};
+use table::calls::{Call, Exchange, Refusal};
 use table::interface::Table;
-
-fn ip(bits: u32) -> Ipv4 {
-    Ipv4::new(bits)
-}
+use test_support::values::{in_slot, ip, policy};
 
 // A next hop.
 const HOP: u32 = 0xc000_0201;
 
 // An address of slot 1 that 10.0.0.0/8 covers.
 const INSIDE: u32 = 0x0a00_0001;
-
-// A policy of these rules.
-fn policy(rules: &[Rule<Prefix4>]) -> Result<Policy<Ipv4>, Fail> {
-    match Policy::<Ipv4>::new(rules) {
-        Ok(policy) => Ok(policy),
-        Err(_) => Err(Fail::new("the rules are a policy")),
-    }
-}
 
 // The rule that permits every route.
 fn permit_all() -> Result<Rule<Prefix4>, Fail> {
@@ -72,26 +61,26 @@ fn runs(rt: HostRuntime) -> Result<(), Fail> {
     let ten = ip(0x0a00_0000).prefix(8)?;
     let address = ip(INSIDE);
     let steps = [
-        (Call::Lookup { address, bound: 32 }, Reply::Found(None)),
+        (Call::Lookup { address, bound: 32 }, Ok(Found(None))),
         (
             Call::Announce {
                 plane: 0,
                 prefix: ten,
                 hop: ip(HOP),
             },
-            Reply::Done,
+            Ok(Done),
         ),
         (
             Call::Lookup { address, bound: 32 },
-            Reply::Found(Some((8, ip(HOP)))),
+            Ok(Found(Some((8, ip(HOP))))),
         ),
-        (Call::Lookup { address, bound: 7 }, Reply::Found(None)),
+        (Call::Lookup { address, bound: 7 }, Ok(Found(None))),
         (
             Call::Withdraw {
                 plane: 1,
                 prefix: ten,
             },
-            Reply::Refused(Refusal::NoPlane),
+            Err(Refusal::NoPlane),
         ),
     ];
     let table: OneRoute<Ipv4> = OneRoute::new();
@@ -107,16 +96,6 @@ fn runs(rt: HostRuntime) -> Result<(), Fail> {
     Ok(())
 }
 
-// The address in slot 1, if there is one.
-macro_rules! in_slot_1 {
-    ($stack:expr) => {
-        match $stack.entry(1) {
-            Some(entry) => Some(entry.address.bits()),
-            None => None,
-        }
-    };
-}
-
 // While loading: the cache comes off, the policy is replaced, a new cache goes on; its slots are empty, the routes are there.
 #[test]
 fn replaces_while_loading(rt: HostRuntime) -> Result<(), Fail> {
@@ -124,13 +103,13 @@ fn replaces_while_loading(rt: HostRuntime) -> Result<(), Fail> {
     let table: OneRoute<Ipv4> = OneRoute::new();
     let mut cached = Cache::new(Filter::new(table, policy(&[permit_all()?])?), 4);
     assert_eq!(rt; cached.lookup(ip(INSIDE), 32), Ok(None));
-    assert_eq!(rt; in_slot_1!(cached), Some(INSIDE));
+    assert_eq!(rt; in_slot(&cached, 1), Some(ip(INSIDE)));
     let mut loading = Loading::new(cached);
     assert_eq!(rt; loading.announce(0, ten, ip(HOP)), Ok(()));
     let mut filtered = loading.uncover().replace(policy(&[])?);
     assert_eq!(rt; filtered.fetch(0, ten), Ok(Some(ip(HOP))));
     let mut forwarding = filtered.cover(4).open();
-    assert_eq!(rt; in_slot_1!(forwarding.table()), None);
+    assert_eq!(rt; in_slot(forwarding.table(), 1), None);
     assert_eq!(rt; forwarding.lookup(ip(INSIDE), 32), Ok(None));
     Ok(())
 }
@@ -144,11 +123,11 @@ fn replaces_while_forwarding(rt: HostRuntime) -> Result<(), Fail> {
     let mut forwarding = loading.open().cover(4);
     assert_eq!(rt; forwarding.announce(0, ten, ip(HOP)), Ok(()));
     assert_eq!(rt; forwarding.lookup(ip(INSIDE), 32), Ok(Some((8, ip(HOP)))));
-    assert_eq!(rt; in_slot_1!(forwarding.table()), Some(INSIDE));
+    assert_eq!(rt; in_slot(forwarding.table(), 1), Some(ip(INSIDE)));
     let mut filtered = forwarding.uncover().replace(policy(&[])?);
     assert_eq!(rt; filtered.fetch(0, ten), Ok(Some(ip(HOP))));
     let mut again = filtered.cover(4);
-    assert_eq!(rt; in_slot_1!(again.table()), None);
+    assert_eq!(rt; in_slot(again.table(), 1), None);
     assert_eq!(rt; again.lookup(ip(INSIDE), 32), Ok(None));
     Ok(())
 }
