@@ -10,7 +10,8 @@ use Rattle.model.specs.Maps.{held, put, removed}
 use Rattle.model.specs.Room.{fits_rows}
 use Rattle.model.specs.Machine.{Hop, Plane, on, announce, withdraw, done}
 use Rattle.model.specs.Tables.{usable, rows_room}
-use Rattle.model.proofs.OnePlane.{Single, announce_done, announce_full, withdraw_done, withdraw_absent}
+use Rattle.model.specs.Single.{Single}
+use Rattle.model.proofs.OnePlane.{announce_done, announce_full, withdraw_done, withdraw_absent}
 use Rattle.model.proofs.Mapped.{made}
 use Rattle.table.specs.declared.calls.Refusal.{Refusal}
 use Rattle.table.specs.Meaning.{of_update}
@@ -28,40 +29,38 @@ fits w k c rows l = le-leb _ _ (omega (arith, length-map (take k rows) (route_of
 
 module _ (w n : ℕ) (rows : List Row) (good : WellFormed w n rows) where
   -- a row put in, or refused
-  pub announced : {U : Type 0} (row : Row) (i : ℕ) (p : Bits) (h : Hop) → i ≡ 0 → key row ≡ p → hop_of w row ≡ h → (r : Result U Refusal) (k : ℕ) (new : List Row)
+  pub announced : {U : Type 0} (row : Row) (p : Bits) (h : Hop) → key row ≡ p → hop_of w row ≡ h → (r : Result U Refusal) (k : ℕ) (new : List Row)
       → Inserted (usable (length rows)) row n rows k new r
-      → Single (rows_room (length rows)) (routes w n rows) (routes w k new) (on i (announce p h)) (of_update r)
-  announced row i p h z e f (Ok u) k new x =
+      → Single (rows_room (length rows)) (routes w n rows) (routes w k new) (on 0 (announce p h)) (of_update r)
+  announced row p h e f (Ok u) k new x =
       let plane : routes w k new ≡ put (routes w n rows) p h =
       inserted_plane w n rows good u row k new x ∙ ap (λ (q : Bits). put (routes w n rows) q (hop_of w row)) e ∙ ap (put (routes w n rows) p) f in
-      subst (λ (j : ℕ). Single (rows_room (length rows)) (routes w n rows) (routes w k new) (on j (announce p h)) done) (sym z)
-      (subst (λ (m : Plane). Single (rows_room (length rows)) (routes w n rows) m (on 0 (announce p h)) done) (sym plane)
+      subst (λ (m : Plane). Single (rows_room (length rows)) (routes w n rows) m (on 0 (announce p h)) done) (sym plane)
       (announce_done (rows_room (length rows)) (routes w n rows) p h
-      (ap (fits_rows (usable (length rows))) (sym plane) ∙ fits w k (length rows) new x.0)))
-  announced row i p h z e f (Err y) k new x =
-      rw (z, x.1, x.2, x.0)
+      (ap (fits_rows (usable (length rows))) (sym plane) ∙ fits w k (length rows) new x.0))
+  announced row p h e f (Err y) k new x =
+      rw (x.1, x.2, x.0)
       (announce_full (rows_room (length rows)) (routes w n rows) p h
       (ap (λ (q : Hop). fits_rows (usable (length rows)) (put (routes w n rows) p q)) (sym f)
       ∙ ap (λ (q : Bits). fits_rows (usable (length rows)) (put (routes w n rows) q (hop_of w row))) (sym e) ∙ full w n rows good row x.3 x.4))
 
   -- a row taken out, or refused
-  pub withdrawn : {U : Type 0} (i : ℕ) (q p : Bits) → i ≡ 0 → q ≡ p → (r : Result U Refusal) (k : ℕ) (new : List Row)
+  pub withdrawn : {U : Type 0} (q p : Bits) → q ≡ p → (r : Result U Refusal) (k : ℕ) (new : List Row)
       → Removed q n rows k new r
-      → Single (rows_room (length rows)) (routes w n rows) (routes w k new) (on i (withdraw p)) (of_update r)
-  withdrawn i q p z e (Ok u) k new x = go (held (entries (take n rows)) q) refl
+      → Single (rows_room (length rows)) (routes w n rows) (routes w k new) (on 0 (withdraw p)) (of_update r)
+  withdrawn q p e (Ok u) k new x = go (held (entries (take n rows)) q) refl
     where
       plane : routes w k new ≡ removed (routes w n rows) p
       plane = removed_plane w n rows good u q k new x ∙ ap (removed (routes w n rows)) e
 
-      go : (o : Option Row) → held (entries (take n rows)) q ≡ o → Single (rows_room (length rows)) (routes w n rows) (routes w k new) (on i (withdraw p)) done
+      go : (o : Option Row) → held (entries (take n rows)) q ≡ o → Single (rows_room (length rows)) (routes w n rows) (routes w k new) (on 0 (withdraw p)) done
       go None f = absurd (x.2 f)
       go (Some row) f =
-          subst (λ (j : ℕ). Single (rows_room (length rows)) (routes w n rows) (routes w k new) (on j (withdraw p)) done) (sym z)
-          (subst (λ (m : Plane). Single (rows_room (length rows)) (routes w n rows) m (on 0 (withdraw p)) done) (sym plane)
+          subst (λ (m : Plane). Single (rows_room (length rows)) (routes w n rows) m (on 0 (withdraw p)) done) (sym plane)
           (withdraw_done (rows_room (length rows)) (routes w n rows) p (hop_of w row)
-          (ap (held (routes w n rows)) (sym e) ∙ plane_holds w n rows good q ∙ ap (made (hop_of w)) f)))
-  withdrawn i q p z e (Err y) k new x =
-      rw (z, x.1, x.2, x.0)
+          (ap (held (routes w n rows)) (sym e) ∙ plane_holds w n rows good q ∙ ap (made (hop_of w)) f))
+  withdrawn q p e (Err y) k new x =
+      rw (x.1, x.2, x.0)
       (withdraw_absent (rows_room (length rows)) (routes w n rows) p
       (ap (held (routes w n rows)) (sym e) ∙ plane_holds w n rows good q ∙ ap (made (hop_of w)) x.3))
 

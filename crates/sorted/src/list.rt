@@ -1,15 +1,9 @@
-ghost use Rattle.std.specs.Prelude.{◌≡◌, ◌≤◌, false, [], ◌∷◌, length, take, ◌≢◌, IfOk, IfErr, is_ok};
+ghost use Rattle.std.specs.Prelude.{◌≡◌, ◌≤◌, false, [], length, take, is_ok};
 ghost use Rattle.std.specs.List.{slice_get};
 ghost use Rattle.bits.specs.Halves.{front, Aligned, Fit};
-ghost use Rattle.model.specs.Maps.{held};
-ghost use Rattle.model.specs.Longest.{answer};
-ghost use Rattle.table.specs.declared.calls.Refusal.TheVariants.{NoPlane};
-ghost use Rattle.table.specs.Meaning.{as_hop, as_answer};
-ghost use Rattle.model.specs.Tables.{plain, usable, rows_room};
-ghost use Rattle.model.specs.Stack.{table as leaf};
-ghost use Rattle.model.proofs.SoundLaws.{plain_local};
+ghost use Rattle.model.specs.Tables.{usable, rows_room};
 ghost use Rattle.model.proofs.RoomLaws.{rows_room as rows_law};
-ghost use Rattle.model.proofs.OnePlane.{one_described, rows_sound};
+ghost use Rattle.model.proofs.OnePlane.{rows_sound};
 ghost use Rattle.sorted.specs.Rows.{key, route_of, routes, as_route, RowOk, WellFormed};
 ghost use Rattle.sorted.specs.Places.{InOrder, Inserted, Removed};
 
@@ -19,9 +13,9 @@ use crate::shift::{insert_at, remove_at};
 use address::kind::Address;
 use bits::front::Front;
 use std::marker::PhantomData;
+use table::borrowed::{hop_in, room_in};
 use table::calls::Refusal;
-use table::interface::Table;
-use table::one_plane::{PLANES, has_plane, hop_in, room_in};
+use table::one_plane::OnePlane;
 
 // A sorted list of routes in borrowed rows: the first `used` hold one route each, in rising order of their prefixes.
 #[derive(Drop)]
@@ -86,30 +80,9 @@ impl<'a, A: Address> Sorted<'a, A> {
         &self.rows[..self.used]
     }
 
-    // The hop of the prefix, if it is held.
-    #[tactic(auto, using(crate::proofs::Calls::fetched, crate::proofs::Calls::none_fetched))]
-    fn hop_of(&self, prefix: A::Prefix) -> Option<A>
-        requires { WellFormed A.Address.width self.now.used self.now.rows.now }
-        ensures { as_hop A.Address.bits result ≡ held (routes A.Address.width self.now.used self.now.rows.now) (A.Address.pbits prefix) }
-    {
-        let row = find(self.in_use(), front_of::<A>(prefix))?;
-        Some(next_hop(row))
-    }
-
-    // The length and hop of the longest prefix that covers the address and is no longer than the bound.
-    fn longest(&self, address: A, bound: u8) -> Option<(u8, A)>
-        requires valid { WellFormed A.Address.width self.now.used self.now.rows.now }
-        requires within { bound ≤ A.Address.width }
-        ensures { as_answer A.Address.bits result ≡ answer (held (routes A.Address.width self.now.used self.now.rows.now)) (A.Address.bits address) bound }
-    {
-        let rows = self.in_use();
-        let row = rows[best(rows, address.to_halves(), bound)?];
-        Some((row.prefix.len, next_hop(row)))
-    }
-
     // Puts the row in the place of the row of its prefix, or else between the others if there is room.
     #[tactic(auto, using(crate::proofs::Editing::written, crate::proofs::Editing::entered))]
-    fn insert(&mut self, row: Row) -> Result<(), Refusal>
+    fn put_row(&mut self, row: Row) -> Result<(), Refusal>
         requires valid { WellFormed A.Address.width self.old.used self.old.rows.now }
         requires proper { RowOk A.Address.width row }
         ensures long { length self.new.rows.now ≡ length self.old.rows.now }
@@ -131,7 +104,7 @@ impl<'a, A: Address> Sorted<'a, A> {
 
     // Takes the row of the prefix out.
     #[tactic(auto, using(crate::proofs::Editing::taken, crate::proofs::Editing::some_used, crate::proofs::Editing::was_held))]
-    fn remove(&mut self, prefix: Front) -> Result<(), Refusal>
+    fn take_row(&mut self, prefix: Front) -> Result<(), Refusal>
         requires valid { WellFormed A.Address.width self.old.used self.old.rows.now }
         requires short { prefix.len ≤ 128 }
         ensures long { length self.new.rows.now ≡ length self.old.rows.now }
@@ -144,18 +117,6 @@ impl<'a, A: Address> Sorted<'a, A> {
         remove_at(self.rows, i, self.used);
         self.used -= 1;
         Ok(())
-    }
-}
-
-// Refuses every plane but that of the list.
-fn check_plane(plane: u16) -> Result<(), Refusal>
-    ensures ok { IfOk result (λ u. plane ≡ 0) }
-    ensures refused { IfErr result (λ e. (e ≡ NoPlane) × (plane ≢ 0)) }
-{
-    if has_plane(plane) {
-        Ok(())
-    } else {
-        Err(Refusal::NoPlane)
     }
 }
 
@@ -201,52 +162,36 @@ fn next_hop<A: Address>(row: Row) -> A
     hop_in(row.hop)
 }
 
-impl<'a, A: Address> Table for Sorted<'a, A> {
-    type Addr = A;
+impl<'a, A: Address> OnePlane for Sorted<'a, A> {
+    type Kind = A;
 
-    ghost planes = { λ s. routes A.Address.width s.used s.rows.now ∷ [] };
-
-    ghost view = { λ s. plain };
+    ghost routes = { λ s. routes A.Address.width s.used s.rows.now };
 
     ghost room = { λ s. rows_room (length s.rows.now) };
 
-    ghost stack = { λ s. leaf (routes A.Address.width s.used s.rows.now ∷ []) plain (rows_room (length s.rows.now)) };
-
-    ghost valid = { λ s. WellFormed A.Address.width s.used s.rows.now };
-
-    ghost described = { λ s. one_described (routes A.Address.width s.used s.rows.now) (rows_room (length s.rows.now)) };
-
-    ghost local = { λ s. plain_local };
+    ghost well = { λ s. WellFormed A.Address.width s.used s.rows.now };
 
     ghost roomy = { λ s i. rows_law (usable (length s.rows.now)) };
 
     ghost sound = { λ s v. rows_sound (route_of A.Address.width) (length s.rows.now) s.used s.rows.now v.few v.rising };
 
-    ghost current = { λ s v. tt };
-
-    fn plane_count(&self) -> u16 {
-        PLANES
+    fn insert(&mut self, prefix: A::Prefix, hop: A) -> Result<(), Refusal> {
+        self.put_row(row_of(prefix, hop))
     }
 
-    fn announce(&mut self, plane: u16, prefix: A::Prefix, hop: A) -> Result<(), Refusal> {
-        check_plane(plane)?;
-        self.insert(row_of(prefix, hop))
+    fn remove(&mut self, prefix: A::Prefix) -> Result<(), Refusal> {
+        self.take_row(front_of::<A>(prefix))
     }
 
-    fn withdraw(&mut self, plane: u16, prefix: A::Prefix) -> Result<(), Refusal> {
-        check_plane(plane)?;
-        self.remove(front_of::<A>(prefix))
+    #[tactic(auto, using(crate::proofs::Calls::fetched, crate::proofs::Calls::none_fetched))]
+    fn hop_of(&self, prefix: A::Prefix) -> Option<A> {
+        let row = find(self.in_use(), front_of::<A>(prefix))?;
+        Some(next_hop(row))
     }
 
-    fn fetch(&mut self, plane: u16, prefix: A::Prefix) -> Result<Option<A>, Refusal> {
-        check_plane(plane)?;
-        Ok(self.hop_of(prefix))
-    }
-
-    fn lookup(&mut self, address: A, bound: u8) -> Result<Option<(u8, A)>, Refusal> {
-        if bound > A::wide() {
-            return Err(Refusal::BoundTooLong);
-        }
-        Ok(self.longest(address, bound))
+    fn longest(&self, address: A, bound: u8) -> Option<(u8, A)> {
+        let rows = self.in_use();
+        let row = rows[best(rows, address.to_halves(), bound)?];
+        Some((row.prefix.len, next_hop(row)))
     }
 }
