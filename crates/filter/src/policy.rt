@@ -7,6 +7,7 @@ use crate::matching::keep;
 use crate::rule::{Rule, is_well_formed};
 use address::kind::Address;
 use std::array;
+use std::marker::PhantomData;
 
 // A policy has at most so many rules.
 const MOST_RULES: usize = 64;
@@ -36,7 +37,7 @@ impl PolicyRefusal {
 #[derive(Drop)]
 pub struct Policy<A: Address> {
     pub(crate) rules: [Option<Entry>; MOST_RULES],
-    kind: [A; 0],
+    kind: PhantomData<A>,
 }
 
 // The place of the first rule that is not well-formed, if there is one.
@@ -75,7 +76,7 @@ impl<A: Address> Policy<A> {
         }
         Ok(Policy {
             rules: placed::<A>(rules),
-            kind: [],
+            kind: PhantomData,
         })
     }
 }

@@ -13,6 +13,7 @@ use bits::front::Front;
 use bits::halves::Halves;
 use pool::edit::{insert, remove};
 use table::borrowed::{hop_in, room_in};
+use std::marker::PhantomData;
 use table::calls::Refusal;
 use table::one_plane::OnePlane;
 use trie::links::unlinked;
@@ -24,7 +25,7 @@ use trie::search::{best, find};
 pub struct Patricia<'a, A: Address> {
     nodes: &'a mut [Node],
     used: usize,
-    kind: [A; 0],
+    kind: PhantomData<A>,
 }
 
 impl<'a, A: Address> Patricia<'a, A> {
@@ -38,7 +39,7 @@ impl<'a, A: Address> Patricia<'a, A> {
         Patricia {
             nodes,
             used: 0,
-            kind: [],
+            kind: PhantomData,
         }
     }
 
