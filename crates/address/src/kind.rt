@@ -14,7 +14,7 @@ pub trait Address: Copy {
 
     const WIDTH: u8;
 
-    ghost width: { ℕ };
+    ghost WIDTH: { ℕ };
 
     ghost bits: { Self → Bits };
 
@@ -35,14 +35,11 @@ pub trait Address: Copy {
     // the prefix of those bits
     ghost made: { Bits → Self.Prefix };
 
-    fn wide() -> u8
-        ensures { result ≡ width };
-
     fn to_halves(self) -> Halves
         ensures { result ≡ halves self };
 
     fn from_halves(h: Halves) -> Self
-        requires { Aligned width h }
+        requires { Aligned WIDTH h }
         ensures { result ≡ joined h };
 
     // The bits of `p`, in the halves of the address at which it starts.
@@ -60,25 +57,25 @@ pub trait Address: Copy {
     fn prefix(self, len: u8) -> Result<Self::Prefix, PrefixRefusal>
         ensures { outcome pbits result ≡ checked (bits self) len };
 
-    ghost sized: { (16 ≤ width) × (width ≤ 128) };
+    ghost sized: { (16 ≤ WIDTH) × (WIDTH ≤ 128) };
 
-    ghost whole: { (a : Self) → length (bits a) ≡ width };
+    ghost whole: { (a : Self) → length (bits a) ≡ WIDTH };
 
-    ghost fits: { (a : Self) → Fit (halves a) × Aligned width (halves a) };
+    ghost fits: { (a : Self) → Fit (halves a) × Aligned WIDTH (halves a) };
 
-    ghost reads: { (a : Self) → bits a ≡ front width (halves a) };
+    ghost reads: { (a : Self) → bits a ≡ front WIDTH (halves a) };
 
     ghost back: { (a : Self) → real a → joined (halves a) ≡ a };
 
     ghost lives: { (h : Halves) → real (joined h) };
 
-    ghost forth: { (h : Halves) → Fit h → Aligned width h → halves (joined h) ≡ h };
+    ghost forth: { (h : Halves) → Fit h → Aligned WIDTH h → halves (joined h) ≡ h };
 
-    ghost short: { (p : Self.Prefix) → length (pbits p) ≤ width };
+    ghost short: { (p : Self.Prefix) → length (pbits p) ≤ WIDTH };
 
-    ghost opens: { (p : Self.Prefix) → bits (start p) ≡ pbits p ++ replicate (width - length (pbits p)) false };
+    ghost opens: { (p : Self.Prefix) → bits (start p) ≡ pbits p ++ replicate (WIDTH - length (pbits p)) false };
 
-    ghost every: { (q : Bits) → length q ≤ width → pbits (made q) ≡ q };
+    ghost every: { (q : Bits) → length q ≤ WIDTH → pbits (made q) ≡ q };
 
     ghost one: { (p q : Self.Prefix) → pbits p ≡ pbits q → p ≡ q };
 }

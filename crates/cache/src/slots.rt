@@ -46,7 +46,7 @@ pub fn slot_of<A: Address>(address: A, count: usize) -> usize
 {
     let whole = Front {
         bits: address.to_halves(),
-        len: A::wide(),
+        len: A::WIDTH,
     };
     modulo(last_16(whole), count)
 }
@@ -55,7 +55,7 @@ pub fn slot_of<A: Address>(address: A, count: usize) -> usize
 pub fn in_full<A: Address>(count: usize, address: A, bound: u8) -> bool
     ensures { result ≡ in_full count (A.Address.bits address) bound }
 {
-    count != 0 && bound == A::wide()
+    count != 0 && bound == A::WIDTH
 }
 
 // Whether the two are the same address.

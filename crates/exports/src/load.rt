@@ -96,7 +96,7 @@ where
     ensures { T.Table.valid table.new }
 {
     let mut sum = 0u64;
-    let width = A::wide();
+    let width = A::WIDTH;
     for address in addresses {
         match table.lookup(*address, width) {
             Ok(Some((len, hop))) => {

@@ -28,7 +28,7 @@ const REFUSED: u8 = 4;
 pub fn address_at<A: Address>(s: &[u8], p: usize) -> A
     requires { p + 16 ≤ length s.now }
 {
-    let width = A::wide();
+    let width = A::WIDTH;
     let halves = halves_at(s, p);
     A::from_halves(Front { bits: halves, len: width }.masked())
 }

@@ -89,7 +89,7 @@ pub(crate) fn first_match(rules: &[Option<Entry>], route: Front) -> bool
 
 // The address's prefix of `n` bits, as a route.
 pub(crate) fn route_at<A: Address>(address: A, n: u8) -> Front
-    requires { n ≤ A.Address.width }
+    requires { n ≤ A.Address.WIDTH }
     ensures bits { front result.len result.bits ≡ take n (A.Address.bits address) }
     ensures short { result.len ≤ 128 }
 {

@@ -42,7 +42,7 @@ pub struct Policy<A: Address> {
 
 // The place of the first rule that is not well-formed, if there is one.
 fn first_bad_rule<A: Address>(rules: &[Rule<A::Prefix>]) -> Option<usize>
-    ensures { result ≡ position (λ rule. not (well_formed A.Address.width (as_rule A.Address.pbits rule))) rules.now }
+    ensures { result ≡ position (λ rule. not (well_formed A.Address.WIDTH (as_rule A.Address.pbits rule))) rules.now }
 {
     rules.iter().position(|rule| !is_well_formed::<A>(*rule))
 }
@@ -66,7 +66,7 @@ impl<A: Address> Policy<A> {
     // The policy of these rules, if there are at most 64 and each is well-formed.
     #[tactic(auto, using(crate::proofs::Places::first_bad_at))]
     pub fn new(rules: &[Rule<A::Prefix>]) -> Result<Policy<A>, PolicyRefusal>
-        ensures { outcome result ≡ checked_policy A.Address.pbits A.Address.width rules.now }
+        ensures { outcome result ≡ checked_policy A.Address.pbits A.Address.WIDTH rules.now }
     {
         if rules.len() > MOST_RULES {
             return Err(PolicyRefusal::TooManyRules);

@@ -33,7 +33,7 @@ pub struct Rule<P> {
 
 // Whether the rule keeps prefix length ≤ ge ≤ le ≤ width.
 pub fn is_well_formed<A: Address>(rule: Rule<A::Prefix>) -> bool
-    ensures { result ≡ well_formed A.Address.width (as_rule A.Address.pbits rule) }
+    ensures { result ≡ well_formed A.Address.WIDTH (as_rule A.Address.pbits rule) }
 {
-    A::len(rule.prefix) <= rule.ge && rule.ge <= rule.le && rule.le <= A::wide()
+    A::len(rule.prefix) <= rule.ge && rule.ge <= rule.le && rule.le <= A::WIDTH
 }

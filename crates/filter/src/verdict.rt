@@ -13,7 +13,7 @@ pub(crate) fn judge<A: Address>(
     address: A,
     found: Option<(u8, A)>,
 ) -> ControlFlow<Option<(u8, A)>, u8>
-    requires { NoLonger A.Address.width found }
+    requires { NoLonger A.Address.WIDTH found }
     ensures { result ≡ verdict (rules_in rules.now) (A.Address.bits address) found }
 {
     let Some(route) = found else {
@@ -30,7 +30,7 @@ pub(crate) fn judge<A: Address>(
 
 // Whether the bound is longer than the addresses.
 pub(crate) fn too_long<A: Address>(bound: u8) -> bool
-    ensures { result ≡ nat_lt A.Address.width bound }
+    ensures { result ≡ nat_lt A.Address.WIDTH bound }
 {
-    bound > A::wide()
+    bound > A::WIDTH
 }

@@ -31,8 +31,8 @@ pub struct Patricia<'a, A: Address> {
 impl<'a, A: Address> Patricia<'a, A> {
     // An empty table in these nodes, whatever they hold.
     pub fn new(nodes: &'a mut [Node]) -> Patricia<'a, A>
-        ensures valid { WellFormed A.Address.width result.used result.nodes.now }
-        ensures empty { routes A.Address.width result.used result.nodes.now ≡ [] }
+        ensures valid { WellFormed A.Address.WIDTH result.used result.nodes.now }
+        ensures empty { routes A.Address.WIDTH result.used result.nodes.now ≡ [] }
         ensures room { nodes_room (length result.nodes.now) ≡ nodes_room (length nodes.old) }
         ensures nodes { result.nodes.now ≡ nodes.old }
     {
@@ -57,8 +57,8 @@ impl<'a, A: Address> Patricia<'a, A> {
 
     // How many nodes are in use: as many as there are routes and branches.
     pub fn node_count(&self) -> usize
-        requires { WellFormed A.Address.width self.now.used self.now.nodes.now }
-        ensures { result ≡ nodes_of (routes A.Address.width self.now.used self.now.nodes.now) }
+        requires { WellFormed A.Address.WIDTH self.now.used self.now.nodes.now }
+        ensures { result ≡ nodes_of (routes A.Address.WIDTH self.now.used self.now.nodes.now) }
     {
         self.used // each node in use is of a route or a branch
     }
@@ -77,15 +77,15 @@ fn key_of<A: Address>(prefix: A::Prefix, hop: Option<Halves>) -> Node
 impl<'a, A: Address> OnePlane for Patricia<'a, A> {
     type Kind = A;
 
-    ghost routes = { λ s. routes A.Address.width s.used s.nodes.now };
+    ghost routes = { λ s. routes A.Address.WIDTH s.used s.nodes.now };
 
     ghost room = { λ s. nodes_room (length s.nodes.now) };
 
-    ghost well = { λ s. WellFormed A.Address.width s.used s.nodes.now };
+    ghost well = { λ s. WellFormed A.Address.WIDTH s.used s.nodes.now };
 
     ghost roomy = { λ s i. nodes_law (usable (length s.nodes.now)) };
 
-    ghost sound = { λ s v. plane_sound A.Address.width s.used s.nodes.now v };
+    ghost sound = { λ s v. plane_sound A.Address.WIDTH s.used s.nodes.now v };
 
     fn insert(&mut self, prefix: A::Prefix, hop: A) -> Result<(), Refusal> {
         let halves = hop.to_halves();

@@ -28,8 +28,8 @@ pub struct Sorted<'a, A: Address> {
 impl<'a, A: Address> Sorted<'a, A> {
     // An empty list in these rows, whatever they hold.
     pub fn new(rows: &'a mut [Row]) -> Sorted<'a, A>
-        ensures valid { WellFormed A.Address.width result.used result.rows.now }
-        ensures empty { routes A.Address.width result.used result.rows.now ≡ [] }
+        ensures valid { WellFormed A.Address.WIDTH result.used result.rows.now }
+        ensures empty { routes A.Address.WIDTH result.used result.rows.now ≡ [] }
         ensures room { rows_room (length result.rows.now) ≡ rows_room (length rows.old) }
         ensures rows { result.rows.now ≡ rows.old }
     {
@@ -55,8 +55,8 @@ impl<'a, A: Address> Sorted<'a, A> {
     // How many routes there are.
     #[tactic(auto, using(crate::proofs::Planes::each_one))]
     pub fn route_count(&self) -> usize
-        requires { WellFormed A.Address.width self.now.used self.now.rows.now }
-        ensures { result ≡ length (routes A.Address.width self.now.used self.now.rows.now) }
+        requires { WellFormed A.Address.WIDTH self.now.used self.now.rows.now }
+        ensures { result ≡ length (routes A.Address.WIDTH self.now.used self.now.rows.now) }
     {
         self.used // each row in use holds one route
     }
@@ -64,8 +64,8 @@ impl<'a, A: Address> Sorted<'a, A> {
     // The route at place `i` of the order, from 0, if there are so many.
     #[tactic(auto, using(crate::proofs::Nth::nth_here, crate::proofs::Nth::nth_past))]
     pub fn route(&self, i: usize) -> Option<(A::Prefix, A)>
-        requires { WellFormed A.Address.width self.now.used self.now.rows.now }
-        ensures { as_route A.Address.bits A.Address.pbits result ≡ slice_get (routes A.Address.width self.now.used self.now.rows.now) i }
+        requires { WellFormed A.Address.WIDTH self.now.used self.now.rows.now }
+        ensures { as_route A.Address.bits A.Address.pbits result ≡ slice_get (routes A.Address.WIDTH self.now.used self.now.rows.now) i }
     {
         let row = *self.in_use().get(i)?;
         Some((prefix_of::<A>(row), next_hop(row)))
@@ -73,7 +73,7 @@ impl<'a, A: Address> Sorted<'a, A> {
 
     // The rows in use.
     fn in_use(&self) -> &[Row]
-        requires { WellFormed A.Address.width self.now.used self.now.rows.now }
+        requires { WellFormed A.Address.WIDTH self.now.used self.now.rows.now }
         ensures rows { result.now ≡ take self.now.used self.now.rows.now }
         ensures rising { InOrder result.now }
     {
@@ -83,8 +83,8 @@ impl<'a, A: Address> Sorted<'a, A> {
     // Puts the row in the place of the row of its prefix, or else between the others if there is room.
     #[tactic(auto, using(crate::proofs::Editing::written, crate::proofs::Editing::entered))]
     fn put_row(&mut self, row: Row) -> Result<(), Refusal>
-        requires valid { WellFormed A.Address.width self.old.used self.old.rows.now }
-        requires proper { RowOk A.Address.width row }
+        requires valid { WellFormed A.Address.WIDTH self.old.used self.old.rows.now }
+        requires proper { RowOk A.Address.WIDTH row }
         ensures long { length self.new.rows.now ≡ length self.old.rows.now }
         ensures put { Inserted (usable (length self.old.rows.now)) row self.old.used self.old.rows.now self.new.used self.new.rows.now result }
         ensures refused { is_ok result ≡ false → self.new ≡ self.old }
@@ -105,7 +105,7 @@ impl<'a, A: Address> Sorted<'a, A> {
     // Takes the row of the prefix out.
     #[tactic(auto, using(crate::proofs::Editing::taken, crate::proofs::Editing::some_used, crate::proofs::Editing::was_held))]
     fn take_row(&mut self, prefix: Front) -> Result<(), Refusal>
-        requires valid { WellFormed A.Address.width self.old.used self.old.rows.now }
+        requires valid { WellFormed A.Address.WIDTH self.old.used self.old.rows.now }
         requires short { prefix.len ≤ 128 }
         ensures long { length self.new.rows.now ≡ length self.old.rows.now }
         ensures taken { Removed (front prefix.len prefix.bits) self.old.used self.old.rows.now self.new.used self.new.rows.now result }
@@ -124,7 +124,7 @@ impl<'a, A: Address> Sorted<'a, A> {
 #[tactic(auto, using(bits::proofs::Fronts::prefix_front, crate::proofs::Calls::start_clear))]
 fn front_of<A: Address>(prefix: A::Prefix) -> Front
     ensures bits { front result.len result.bits ≡ A.Address.pbits prefix }
-    ensures short { result.len ≤ A.Address.width }
+    ensures short { result.len ≤ A.Address.WIDTH }
     ensures clear { Aligned result.len result.bits }
     ensures fits { Fit result.bits }
 {
@@ -134,8 +134,8 @@ fn front_of<A: Address>(prefix: A::Prefix) -> Front
 // The row of the prefix with this hop.
 fn row_of<A: Address>(prefix: A::Prefix, hop: A) -> Row
     ensures key { key result ≡ A.Address.pbits prefix }
-    ensures hop { front A.Address.width result.hop ≡ A.Address.bits hop }
-    ensures proper { RowOk A.Address.width result }
+    ensures hop { front A.Address.WIDTH result.hop ≡ A.Address.bits hop }
+    ensures proper { RowOk A.Address.WIDTH result }
 {
     Row {
         prefix: front_of::<A>(prefix),
@@ -145,7 +145,7 @@ fn row_of<A: Address>(prefix: A::Prefix, hop: A) -> Row
 
 // The prefix of a row.
 fn prefix_of<A: Address>(row: Row) -> A::Prefix
-    requires { RowOk A.Address.width row }
+    requires { RowOk A.Address.WIDTH row }
     ensures { A.Address.pbits result ≡ key row }
 {
     let Ok(prefix) = A::from_halves(row.prefix.bits).prefix(row.prefix.len) else {
@@ -156,8 +156,8 @@ fn prefix_of<A: Address>(row: Row) -> A::Prefix
 
 // The next hop of a row.
 fn next_hop<A: Address>(row: Row) -> A
-    requires { RowOk A.Address.width row }
-    ensures { A.Address.bits result ≡ front A.Address.width row.hop }
+    requires { RowOk A.Address.WIDTH row }
+    ensures { A.Address.bits result ≡ front A.Address.WIDTH row.hop }
 {
     hop_in(row.hop)
 }
@@ -165,15 +165,15 @@ fn next_hop<A: Address>(row: Row) -> A
 impl<'a, A: Address> OnePlane for Sorted<'a, A> {
     type Kind = A;
 
-    ghost routes = { λ s. routes A.Address.width s.used s.rows.now };
+    ghost routes = { λ s. routes A.Address.WIDTH s.used s.rows.now };
 
     ghost room = { λ s. rows_room (length s.rows.now) };
 
-    ghost well = { λ s. WellFormed A.Address.width s.used s.rows.now };
+    ghost well = { λ s. WellFormed A.Address.WIDTH s.used s.rows.now };
 
     ghost roomy = { λ s i. rows_law (usable (length s.rows.now)) };
 
-    ghost sound = { λ s v. rows_sound (route_of A.Address.width) (length s.rows.now) s.used s.rows.now v.few v.rising };
+    ghost sound = { λ s v. rows_sound (route_of A.Address.WIDTH) (length s.rows.now) s.used s.rows.now v.few v.rising };
 
     fn insert(&mut self, prefix: A::Prefix, hop: A) -> Result<(), Refusal> {
         self.put_row(row_of(prefix, hop))

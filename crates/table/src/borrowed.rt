@@ -18,7 +18,7 @@ pub fn room_in(slots: usize) -> usize
 
 // The next hop in these halves.
 pub fn hop_in<A: Address>(hop: Halves) -> A
-    requires { Aligned A.Address.width hop }
+    requires { Aligned A.Address.WIDTH hop }
     ensures { result ≡ A.Address.joined hop }
 {
     A::from_halves(hop)

@@ -59,7 +59,7 @@ pub trait OnePlane {
     // The length and hop of the longest prefix that covers the address and is no longer than the bound.
     fn longest(&self, address: Self::Kind, bound: u8) -> Option<(u8, Self::Kind)>
         requires well { well self.now }
-        requires within { bound ≤ Self.Kind.Address.width }
+        requires within { bound ≤ Self.Kind.Address.WIDTH }
         ensures { as_answer Self.Kind.Address.bits result ≡ answer (held (routes self.now)) (Self.Kind.Address.bits address) bound };
 }
 
@@ -135,7 +135,7 @@ impl<S: OnePlane> Table for S {
     }
 
     fn lookup(&mut self, address: S::Kind, bound: u8) -> Result<Option<(u8, S::Kind)>, Refusal> {
-        if bound > S::Kind::wide() {
+        if bound > S::Kind::WIDTH {
             return Err(Refusal::BoundTooLong);
         }
         Ok(self.longest(address, bound))

@@ -29,7 +29,7 @@ struct Sample<A: Address> {
 
 // The calls and the replies to them on a table of three rows.
 fn calls_and_replies<A: Address>(s: &Sample<A>) -> [Step<A, A::Prefix>; 27] {
-    let width = A::wide();
+    let width = A::WIDTH;
     [
         // an empty table
         (Call::Lookup { address: s.inside, bound: width }, Ok(Found(None))),

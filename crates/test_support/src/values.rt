@@ -27,7 +27,7 @@ pub fn mac(bits: u64) -> Result<Mac48, Fail>
 
 // A policy of these rules, which have to be one.
 pub fn policy<A: Address>(rules: &[Rule<A::Prefix>]) -> Result<Policy<A>, Fail>
-    ensures { IfOk result (λ p. checked_policy A.Address.pbits A.Address.width rules.now ≡ outcome (Ok p)) }
+    ensures { IfOk result (λ p. checked_policy A.Address.pbits A.Address.WIDTH rules.now ≡ outcome (Ok p)) }
 {
     Policy::new(rules).map_err(|_| Fail::new("the rules are a policy"))
 }

@@ -172,8 +172,8 @@ pub fn asked<A: Address>(
 ) -> Result<Calls<A, A::Prefix>, AllocError> {
     let below = A::len(at.narrow).saturating_sub(1);
     let mut exchanges = Vec::new(heap);
-    ask_bounds(&mut exchanges, at, A::wide(), below)?;
-    ask_full(&mut exchanges, at, A::wide())?;
+    ask_bounds(&mut exchanges, at, A::WIDTH, below)?;
+    ask_full(&mut exchanges, at, A::WIDTH)?;
     Ok(exchanges)
 }
 
@@ -189,7 +189,7 @@ pub fn on_two_planes<A: Address>(
     at: Samples<A, A::Prefix>,
 ) -> Result<Vec<Call<A, A::Prefix>>, AllocError> {
     let address = at.inside;
-    let bound = A::wide();
+    let bound = A::WIDTH;
     let mut list = Vec::new(heap);
     call(
         &mut list,

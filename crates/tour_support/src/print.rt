@@ -77,7 +77,7 @@ pub fn print_routes<A, P>(rt: &HostRuntime, table: &Sorted<A>) -> anyhow::Result
 where
     A: Address<Prefix = P> + fmt::Display,
     P: Copy + fmt::Display,
-    requires { WellFormed A.Address.width table.now.used table.now.rows.now }
+    requires { WellFormed A.Address.WIDTH table.now.used table.now.rows.now }
 {
     println!(rt; "table")?;
     for i in 0..table.route_count() {

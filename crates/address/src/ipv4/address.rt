@@ -26,7 +26,7 @@ impl Address for Ipv4 {
 
     const WIDTH: u8 = 32;
 
-    ghost width = { 32 };
+    ghost WIDTH = { 32 };
 
     ghost bits = { λ a. low_bits 32 a.bits };
 
@@ -69,10 +69,6 @@ impl Address for Ipv4 {
         same_prefix p q
         (same_address _ _ (narrow_addresses 32 _ _ _ _ p.small q.small p.within q.within p.zeros q.zeros e))
         (narrow_lengths 32 p.address.bits q.address.bits _ _ p.within q.within e) };
-
-    fn wide() -> u8 {
-        Self::WIDTH
-    }
 
     fn to_halves(self) -> Halves {
         Halves {

@@ -29,7 +29,7 @@ impl Address for Ipv6 {
 
     const WIDTH: u8 = 128;
 
-    ghost width = { 128 };
+    ghost WIDTH = { 128 };
 
     ghost bits = { λ a. paired a.hi a.lo };
 
@@ -73,10 +73,6 @@ impl Address for Ipv6 {
         (same_raw _ _ (wide_addresses (raw p.address) (raw q.address) _ _ (p.high, p.low) (q.high, q.low)
         p.within q.within p.zeros q.zeros e))
         (wide_lengths (raw p.address) (raw q.address) _ _ p.within q.within e) };
-
-    fn wide() -> u8 {
-        Self::WIDTH
-    }
 
     fn to_halves(self) -> Halves {
         Halves {

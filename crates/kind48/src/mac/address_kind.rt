@@ -19,7 +19,7 @@ impl Address for Mac48 {
 
     const WIDTH: u8 = 48;
 
-    ghost width = { 48 };
+    ghost WIDTH = { 48 };
 
     ghost bits = { λ a. low_bits 48 a.bits };
 
@@ -62,10 +62,6 @@ impl Address for Mac48 {
         same_prefix p q
         (same_address _ _ (narrow_addresses 48 _ _ _ _ p.small q.small p.within q.within p.zeros q.zeros e))
         (narrow_lengths 48 p.address.bits q.address.bits _ _ p.within q.within e) };
-
-    fn wide() -> u8 {
-        Self::WIDTH
-    }
 
     fn to_halves(self) -> Halves {
         Halves {

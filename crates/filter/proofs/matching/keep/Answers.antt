@@ -11,5 +11,5 @@ returns g c =
     let law = g.met.A.Address in
     let rule = c.args.rule in
     let p : front c.front.result.len c.front.result.bits ≡ k.pbits rule.prefix =
-    prefix_front k.width _ _ _ _ c.front.ensures.bits c.front.ensures.len (law.short rule.prefix) (sym (law.reads (k.start rule.prefix)) ∙ law.opens rule.prefix) in
+    prefix_front k.WIDTH _ _ _ _ c.front.ensures.bits c.front.ensures.len (law.short rule.prefix) (sym (law.reads (k.start rule.prefix)) ∙ law.opens rule.prefix) in
     ap (λ (bits : Bits). record { permit = allowed rule.action; prefix = bits; ge = rule.ge; le = rule.le }) p

@@ -7,6 +7,6 @@ pub returns : goal.returns
 returns g c =
     let law = g.met.A.Address in
     record {
-      bits = ap (front c.args.n) c.to_halves.ensures ∙ sym (front_front c.args.n g.A.Address.width _ c.requires) ∙ ap (take c.args.n) (sym (law.reads c.args.address));
+      bits = ap (front c.args.n) c.to_halves.ensures ∙ sym (front_front c.args.n g.A.Address.WIDTH _ c.requires) ∙ ap (take c.args.n) (sym (law.reads c.args.address));
       short = omega (arith, law.sized.1, c.requires);
     }

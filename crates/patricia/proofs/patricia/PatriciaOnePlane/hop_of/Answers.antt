@@ -15,7 +15,7 @@ hop_in-requires g c = (held_proper _ _ _ c.requires _ _ (sym (c.in_ok-hop.ensure
 
 pub returns : goal.returns
 returns g c =
-    let w = g.A.Address.width in
+    let w = g.A.Address.WIDTH in
     let s = c.args.self.now in
     let is = c.in_ok-hop.ensures ∙ held_in_use s.nodes.now s.used c.requires.trie.within _ in
     let ok : AddressHalves w c.in_ok-hop.hop = held_proper _ _ _ c.requires _ _ (sym is) in
@@ -24,7 +24,7 @@ returns g c =
 
 pub returns-in_err-hop : goal.returns-in_err-hop
 returns-in_err-hop g c =
-    let w = g.A.Address.width in
+    let w = g.A.Address.WIDTH in
     let s = c.args.self.now in
     let is = c.in_err-hop.ensures ∙ held_in_use s.nodes.now s.used c.requires.trie.within _ in
     rw c.from_residual.ensures (ap (made (front w)) (is ∙ ap (holds s.nodes.now s.used) c.key_of-key.ensures.prefix) ∙ sym (plane_holds w s.used s.nodes.now c.requires _))

@@ -14,7 +14,7 @@ use Rattle.patricia.proofs.patricia.PatriciaOnePlane.insert.Goals as goal
 
 pub returns : goal.returns
 returns g c =
-    let w = g.A.Address.width in
+    let w = g.A.Address.WIDTH in
     let p = g.A.Address.pbits c.args.prefix in
     let h = c.args.hop in
     let was = c.args.self.now in
@@ -37,7 +37,7 @@ returns g c =
 
 pub returns-in_err-self : goal.returns-in_err-self
 returns-in_err-self g c =
-    let w = g.A.Address.width in
+    let w = g.A.Address.WIDTH in
     let p = g.A.Address.pbits c.args.prefix in
     let h = c.args.hop in
     let was = c.args.self.now in

@@ -19,7 +19,7 @@ hop_in-requires g c =
 
 pub returns : goal.returns
 returns g c =
-    let w = g.A.Address.width in
+    let w = g.A.Address.WIDTH in
     let s = c.args.self.now in
     let b = best_in_use s.nodes.now s.used c.requires.well.trie.within _ _ c.in_ok-slot.ensures in
     let is : (at s.nodes.now c.in_ok-slot.slot).hop ≡ Some c.in_ok-hop.hop = c.in_ok-hop.was in
@@ -35,7 +35,7 @@ returns-in_err-hop g c = absurd ((best_in_use c.args.self.now.nodes.now _ c.requ
 
 pub returns-in_err-slot : goal.returns-in_err-slot
 returns-in_err-slot g c =
-    let w = g.A.Address.width in
+    let w = g.A.Address.WIDTH in
     let s = c.args.self.now in
     let address : front w c.to_halves.result ≡ g.A.Address.bits c.args.address = ap (front w) c.to_halves.ensures ∙ sym (g.met.A.Address.reads c.args.address) in
     rw c.from_residual.ensures (none_is _ _ _ c.requires.well _ g.met.A.Address.sized.1 c.requires.within (best_in_use s.nodes.now s.used c.requires.well.trie.within _ _ c.in_err-slot.ensures)

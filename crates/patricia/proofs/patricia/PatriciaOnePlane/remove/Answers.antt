@@ -40,7 +40,7 @@ returns-in_err-self g c =
     let error = err_from_is_err_and c.from_residual.result c.from_residual.ensures.1 in
     let refusal = refused_as _ _ _ (sym c.ok_or.ensures.value ∙ c.in_err-self.was) in
     rw (error.1, error.2, refusal) (record {
-      well = subst (λ (ns : List Node). WellFormed g.A.Address.width was.used ns) (sym same) c.requires;
+      well = subst (λ (ns : List Node). WellFormed g.A.Address.WIDTH was.used ns) (sym same) c.requires;
       room = ap (λ (ns : List Node). nodes_room (length ns)) same;
       plane = not_held _ _ _ c.requires _ _ kept;
       refused = λ e i. record { nodes = record { ref_ptr = was.nodes.ref_ptr; ghost_name = was.nodes.ghost_name; now = same i }; used = was.used; kind = was.kind };
