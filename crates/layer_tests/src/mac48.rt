@@ -7,8 +7,8 @@ use kind48::mac::{Mac48, Prefix48};
 use minimal::one_route::OneRoute;
 use std::test::Fail;
 use table::calls::Granted::{Done, Found, Holds};
-use table::calls::{Call, Refusal};
-use test_support::steps::check;
+use table::calls::Refusal;
+use test_support::steps::{announce, check, fetch, lookup, withdraw};
 use test_support::values::{join, mac, policy};
 
 // A policy that denies what is beneath the prefix and permits it alone.
@@ -32,71 +32,17 @@ fn stack_at_48_bits(rt: HostRuntime) -> Result<(), Fail> {
     let one = mac(1)?;
     let two = mac(2)?;
     let steps = [
-        (
-            Call::Announce {
-                plane: 0,
-                prefix: narrow,
-                hop: one,
-            },
-            Ok(Done),
-        ),
-        (
-            Call::Announce {
-                plane: 1,
-                prefix: all,
-                hop: two,
-            },
-            Ok(Done),
-        ),
-        (
-            Call::Lookup { address, bound: 48 },
-            Ok(Found(Some((0, two)))),
-        ),
-        (
-            Call::Fetch {
-                plane: 0,
-                prefix: narrow,
-            },
-            Ok(Holds(Some(one))),
-        ),
-        (
-            Call::Withdraw {
-                plane: 0,
-                prefix: narrow,
-            },
-            Ok(Done),
-        ),
-        (
-            Call::Announce {
-                plane: 0,
-                prefix: wide,
-                hop: one,
-            },
-            Ok(Done),
-        ),
-        (
-            Call::Lookup { address, bound: 48 },
-            Ok(Found(Some((8, one)))),
-        ),
-        (
-            Call::Lookup { address, bound: 48 },
-            Ok(Found(Some((8, one)))),
-        ),
-        (
-            Call::Lookup { address, bound: 7 },
-            Ok(Found(Some((0, two)))),
-        ),
-        (
-            Call::Lookup { address, bound: 49 },
-            Err(Refusal::BoundTooLong),
-        ),
-        (
-            Call::Fetch {
-                plane: 2,
-                prefix: all,
-            },
-            Err(Refusal::NoPlane),
-        ),
+        (announce(0, narrow, one), Ok(Done)),
+        (announce(1, all, two), Ok(Done)),
+        (lookup(address, 48), Ok(Found(Some((0, two))))),
+        (fetch(0, narrow), Ok(Holds(Some(one)))),
+        (withdraw(0, narrow), Ok(Done)),
+        (announce(0, wide, one), Ok(Done)),
+        (lookup(address, 48), Ok(Found(Some((8, one))))),
+        (lookup(address, 48), Ok(Found(Some((8, one))))),
+        (lookup(address, 7), Ok(Found(Some((0, two))))),
+        (lookup(address, 49), Err(Refusal::BoundTooLong)),
+        (fetch(2, all), Err(Refusal::NoPlane)),
     ];
     let upper = Filter::new(OneRoute::<Mac48>::new(), only(wide, 8)?);
     let both = join(upper, OneRoute::<Mac48>::new())?;

@@ -6,10 +6,11 @@ use filter::rule::{Action, Rule};
 use minimal::one_route::OneRoute;
 use sorted::list::Sorted;
 use sorted::row::Row;
+use std::alloc::Global;
 use std::test::Fail;
 use table::calls::Granted::{Done, Found, Holds};
-use table::calls::{Call, Refusal};
-use test_support::steps::{Step, check};
+use table::calls::Refusal;
+use test_support::steps::{Step, announce, check, fetch, lookup, withdraw};
 use test_support::values::{in_slot, ip, join, policy};
 
 // Next hops.
@@ -27,75 +28,17 @@ fn falls_through(rt: HostRuntime) -> Result<(), Fail> {
     let all = ip(0).prefix(0)?;
     let address = ip(0x0a01_0203);
     let steps = [
-        (
-            Call::Announce {
-                plane: 0,
-                prefix: ten,
-                hop: ip(A),
-            },
-            Ok(Done),
-        ),
-        (
-            Call::Announce {
-                plane: 1,
-                prefix: one,
-                hop: ip(B),
-            },
-            Ok(Done),
-        ),
-        (
-            Call::Announce {
-                plane: 1,
-                prefix: all,
-                hop: ip(C),
-            },
-            Ok(Done),
-        ),
-        (
-            Call::Announce {
-                plane: 2,
-                prefix: all,
-                hop: ip(C),
-            },
-            Err(Refusal::NoPlane),
-        ),
-        (
-            Call::Lookup { address, bound: 32 },
-            Ok(Found(Some((8, ip(A))))),
-        ),
-        (
-            Call::Lookup { address, bound: 4 },
-            Ok(Found(Some((0, ip(C))))),
-        ),
-        (
-            Call::Fetch {
-                plane: 1,
-                prefix: one,
-            },
-            Ok(Holds(Some(ip(B)))),
-        ),
-        (
-            Call::Withdraw {
-                plane: 1,
-                prefix: ten,
-            },
-            Err(Refusal::NotHeld),
-        ),
-        (
-            Call::Withdraw {
-                plane: 0,
-                prefix: ten,
-            },
-            Ok(Done),
-        ),
-        (
-            Call::Lookup { address, bound: 32 },
-            Ok(Found(Some((16, ip(B))))),
-        ),
-        (
-            Call::Lookup { address, bound: 33 },
-            Err(Refusal::BoundTooLong),
-        ),
+        (announce(0, ten, ip(A)), Ok(Done)),
+        (announce(1, one, ip(B)), Ok(Done)),
+        (announce(1, all, ip(C)), Ok(Done)),
+        (announce(2, all, ip(C)), Err(Refusal::NoPlane)),
+        (lookup(address, 32), Ok(Found(Some((8, ip(A)))))),
+        (lookup(address, 4), Ok(Found(Some((0, ip(C)))))),
+        (fetch(1, one), Ok(Holds(Some(ip(B))))),
+        (withdraw(1, ten), Err(Refusal::NotHeld)),
+        (withdraw(0, ten), Ok(Done)),
+        (lookup(address, 32), Ok(Found(Some((16, ip(B)))))),
+        (lookup(address, 33), Err(Refusal::BoundTooLong)),
     ];
     let mut rows = [Row::blank(); 4];
     let mut more = [Row::blank(); 4];
@@ -113,41 +56,12 @@ fn goes_on_below_denied_routes(rt: HostRuntime) -> Result<(), Fail> {
     let all = ip(0).prefix(0)?;
     let address = ip(0x0a01_0203);
     let steps = [
-        (
-            Call::Announce {
-                plane: 0,
-                prefix: ten,
-                hop: ip(A),
-            },
-            Ok(Done),
-        ),
-        (
-            Call::Announce {
-                plane: 0,
-                prefix: one,
-                hop: ip(B),
-            },
-            Ok(Done),
-        ),
-        (
-            Call::Lookup { address, bound: 32 },
-            Ok(Found(Some((8, ip(A))))),
-        ),
-        (
-            Call::Fetch {
-                plane: 0,
-                prefix: one,
-            },
-            Ok(Holds(Some(ip(B)))),
-        ),
-        (
-            Call::Withdraw {
-                plane: 0,
-                prefix: ten,
-            },
-            Ok(Done),
-        ),
-        (Call::Lookup { address, bound: 32 }, Ok(Found(None))),
+        (announce(0, ten, ip(A)), Ok(Done)),
+        (announce(0, one, ip(B)), Ok(Done)),
+        (lookup(address, 32), Ok(Found(Some((8, ip(A)))))),
+        (fetch(0, one), Ok(Holds(Some(ip(B))))),
+        (withdraw(0, ten), Ok(Done)),
+        (lookup(address, 32), Ok(Found(None))),
     ];
     let rules = [
         Rule {
@@ -171,16 +85,19 @@ fn goes_on_below_denied_routes(rt: HostRuntime) -> Result<(), Fail> {
 
 // What a list of calls leaves in the slots of a cache of so many slots over the smallest table.
 fn check_slots(
-    rt: &HostRuntime,
+    heap: Global,
     count: usize,
     steps: &[Step<Ipv4, Prefix4>],
     filled: &[(usize, Option<u32>)],
 ) -> Result<(), Fail> {
     let table: OneRoute<Ipv4> = OneRoute::new();
     let mut stack = Cache::new(table, count);
-    check(rt.alloc(), &mut stack, steps)?;
-    for (i, address) in filled {
-        assert_eq!(rt; in_slot(&stack, *i), address.map(ip));
+    check(heap, &mut stack, steps)?;
+    for (i, due) in filled {
+        let held = in_slot(&stack, *i);
+        if held != due.map(ip) {
+            return Err(Fail::new(format_args!("slot {i} holds {held:?} and not {due:?}")));
+        }
     }
     Ok(())
 }
@@ -193,102 +110,47 @@ fn fills_slots(rt: HostRuntime) -> Result<(), Fail> {
     let y = ip(0x0a00_0005);
     let z = ip(0x0b00_0002);
     let looks = [
-        (
-            Call::Lookup {
-                address: x,
-                bound: 32,
-            },
-            Ok(Found(None)),
-        ),
-        (
-            Call::Lookup {
-                address: z,
-                bound: 32,
-            },
-            Ok(Found(None)),
-        ),
-        (
-            Call::Lookup {
-                address: y,
-                bound: 31,
-            },
-            Ok(Found(None)),
-        ),
-        (
-            Call::Lookup {
-                address: x,
-                bound: 33,
-            },
-            Err(Refusal::BoundTooLong),
-        ),
-        (
-            Call::Withdraw {
-                plane: 0,
-                prefix: ten,
-            },
-            Err(Refusal::NotHeld),
-        ),
+        (lookup(x, 32), Ok(Found(None))),
+        (lookup(z, 32), Ok(Found(None))),
+        (lookup(y, 31), Ok(Found(None))),
+        (lookup(x, 33), Err(Refusal::BoundTooLong)),
+        (withdraw(0, ten), Err(Refusal::NotHeld)),
     ];
-    check_slots(&rt, 4, &looks, &[
+    let heap = rt.alloc();
+    check_slots(
+        heap,
+        4,
+        &looks,
+        &[
             (0, None),
             (1, Some(0x0a00_0001)),
             (2, Some(0x0b00_0002)),
-            (3, None)
-        ]
+            (3, None),
+        ],
     )?;
-    check_slots(&rt, 0, &looks, &[(0, None), (1, None), (4095, None)])?;
-    check_slots(&rt, 1, &looks, &[(0, Some(0x0b00_0002)), (1, None)])?;
-    check_slots(&rt, 4096, &looks, &[(1, Some(0x0a00_0001)), (2, Some(0x0b00_0002)), (4095, None)]
+    check_slots(heap, 0, &looks, &[(0, None), (1, None), (4095, None)])?;
+    check_slots(heap, 1, &looks, &[(0, Some(0x0b00_0002)), (1, None)])?;
+    check_slots(
+        heap,
+        4096,
+        &looks,
+        &[(1, Some(0x0a00_0001)), (2, Some(0x0b00_0002)), (4095, None)],
     )?;
-    check_slots(&rt, 5000, &looks, &[(1, Some(0x0a00_0001)), (4096, None)])?;
+    check_slots(heap, 5000, &looks, &[(1, Some(0x0a00_0001)), (4096, None)])?;
     let changes = [
-        (
-            Call::Lookup {
-                address: x,
-                bound: 32,
-            },
-            Ok(Found(None)),
-        ),
-        (
-            Call::Lookup {
-                address: z,
-                bound: 32,
-            },
-            Ok(Found(None)),
-        ),
-        (
-            Call::Announce {
-                plane: 0,
-                prefix: ten,
-                hop: ip(A),
-            },
-            Ok(Done),
-        ),
-        (
-            Call::Lookup {
-                address: x,
-                bound: 32,
-            },
-            Ok(Found(Some((8, ip(A))))),
-        ),
-        (
-            Call::Lookup {
-                address: x,
-                bound: 32,
-            },
-            Ok(Found(Some((8, ip(A))))),
-        ),
-        (
-            Call::Lookup {
-                address: y,
-                bound: 32,
-            },
-            Ok(Found(Some((8, ip(A))))),
-        ),
+        (lookup(x, 32), Ok(Found(None))),
+        (lookup(z, 32), Ok(Found(None))),
+        (announce(0, ten, ip(A)), Ok(Done)),
+        (lookup(x, 32), Ok(Found(Some((8, ip(A)))))),
+        (lookup(x, 32), Ok(Found(Some((8, ip(A)))))),
+        (lookup(y, 32), Ok(Found(Some((8, ip(A)))))),
     ];
-    check_slots(&rt, 4, &changes, &[(1, Some(0x0a00_0005)), (2, Some(0x0b00_0002))]
-    )?;
-    Ok(())
+    check_slots(
+        heap,
+        4,
+        &changes,
+        &[(1, Some(0x0a00_0005)), (2, Some(0x0b00_0002))],
+    )
 }
 
 // An update on a plane that the upper table hides empties the entry all the same.
@@ -297,26 +159,9 @@ fn hidden_updates_empty_slots(rt: HostRuntime) -> Result<(), Fail> {
     let ten = ip(0x0a00_0000).prefix(8)?;
     let address = ip(0x0a00_0001);
     let steps = [
-        (
-            Call::Announce {
-                plane: 0,
-                prefix: ten,
-                hop: ip(A),
-            },
-            Ok(Done),
-        ),
-        (
-            Call::Lookup { address, bound: 32 },
-            Ok(Found(Some((8, ip(A))))),
-        ),
-        (
-            Call::Announce {
-                plane: 1,
-                prefix: ten,
-                hop: ip(B),
-            },
-            Ok(Done),
-        ),
+        (announce(0, ten, ip(A)), Ok(Done)),
+        (lookup(address, 32), Ok(Found(Some((8, ip(A)))))),
+        (announce(1, ten, ip(B)), Ok(Done)),
     ];
     let upper: OneRoute<Ipv4> = OneRoute::new();
     let lower: OneRoute<Ipv4> = OneRoute::new();

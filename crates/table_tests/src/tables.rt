@@ -6,16 +6,16 @@ use kind48::mac::{Mac48, Prefix48};
 use patricia::patricia::Patricia;
 use sorted::list::Sorted;
 use sorted::row::Row;
-use std::fmt;
 use std::test::Fail;
 use table::calls::Granted::{Done, Found, Holds};
-use table::calls::{Call, Refusal};
-use test_support::steps::{Step, check};
+use table::calls::Refusal;
+use test_support::steps::{Step, announce, check, fetch, lookup, withdraw};
 use test_support::values::{ip, mac};
 use trie::node::Node;
 
 // Prefixes and addresses of one kind: `all` has length 0, `wide` covers `narrow`, `narrow` covers `inside`, `host` is `inside` at full
 // length, and `outside` is covered by `all` alone; and two next hops.
+#[derive(Drop)]
 struct Sample<A: Address> {
     all: A::Prefix,
     wide: A::Prefix,
@@ -32,53 +32,53 @@ fn calls_and_replies<A: Address>(s: &Sample<A>) -> [Step<A, A::Prefix>; 27] {
     let width = A::WIDTH;
     [
         // an empty table
-        (Call::Lookup { address: s.inside, bound: width }, Ok(Found(None))),
-        (Call::Fetch { plane: 0, prefix: s.wide }, Ok(Holds(None))),
-        (Call::Withdraw { plane: 0, prefix: s.wide }, Err(Refusal::NotHeld)),
+        (lookup(s.inside, width), Ok(Found(None))),
+        (fetch(0, s.wide), Ok(Holds(None))),
+        (withdraw(0, s.wide), Err(Refusal::NotHeld)),
         // an absent plane comes first, whatever else is wrong
-        (Call::Announce { plane: 1, prefix: s.wide, hop: s.one }, Err(Refusal::NoPlane)),
-        (Call::Withdraw { plane: 1, prefix: s.wide }, Err(Refusal::NoPlane)),
-        (Call::Fetch { plane: 65535, prefix: s.wide }, Err(Refusal::NoPlane)),
+        (announce(1, s.wide, s.one), Err(Refusal::NoPlane)),
+        (withdraw(1, s.wide), Err(Refusal::NoPlane)),
+        (fetch(65535, s.wide), Err(Refusal::NoPlane)),
         // the longest match and its bounds
-        (Call::Announce { plane: 0, prefix: s.narrow, hop: s.two }, Ok(Done)),
-        (Call::Announce { plane: 0, prefix: s.wide, hop: s.one }, Ok(Done)),
-        (Call::Lookup { address: s.inside, bound: width }, Ok(Found(Some((16, s.two))))),
-        (Call::Lookup { address: s.inside, bound: 16 }, Ok(Found(Some((16, s.two))))),
-        (Call::Lookup { address: s.inside, bound: 15 }, Ok(Found(Some((8, s.one))))),
-        (Call::Lookup { address: s.inside, bound: 7 }, Ok(Found(None))),
-        (Call::Lookup { address: s.inside, bound: 0 }, Ok(Found(None))),
-        (Call::Lookup { address: s.inside, bound: width + 1 }, Err(Refusal::BoundTooLong)),
-        (Call::Lookup { address: s.outside, bound: width }, Ok(Found(None))),
+        (announce(0, s.narrow, s.two), Ok(Done)),
+        (announce(0, s.wide, s.one), Ok(Done)),
+        (lookup(s.inside, width), Ok(Found(Some((16, s.two))))),
+        (lookup(s.inside, 16), Ok(Found(Some((16, s.two))))),
+        (lookup(s.inside, 15), Ok(Found(Some((8, s.one))))),
+        (lookup(s.inside, 7), Ok(Found(None))),
+        (lookup(s.inside, 0), Ok(Found(None))),
+        (lookup(s.inside, width + 1), Err(Refusal::BoundTooLong)),
+        (lookup(s.outside, width), Ok(Found(None))),
         // length 0, and a full table
-        (Call::Announce { plane: 0, prefix: s.all, hop: s.two }, Ok(Done)),
-        (Call::Lookup { address: s.outside, bound: 0 }, Ok(Found(Some((0, s.two))))),
-        (Call::Announce { plane: 0, prefix: s.host, hop: s.one }, Err(Refusal::NoRoom)),
-        (Call::Fetch { plane: 0, prefix: s.host }, Ok(Holds(None))),
+        (announce(0, s.all, s.two), Ok(Done)),
+        (lookup(s.outside, 0), Ok(Found(Some((0, s.two))))),
+        (announce(0, s.host, s.one), Err(Refusal::NoRoom)),
+        (fetch(0, s.host), Ok(Holds(None))),
         // a held prefix takes another hop, in a full table too
-        (Call::Announce { plane: 0, prefix: s.narrow, hop: s.one }, Ok(Done)),
-        (Call::Fetch { plane: 0, prefix: s.narrow }, Ok(Holds(Some(s.one)))),
+        (announce(0, s.narrow, s.one), Ok(Done)),
+        (fetch(0, s.narrow), Ok(Holds(Some(s.one)))),
         // room again, and length W
-        (Call::Withdraw { plane: 0, prefix: s.wide }, Ok(Done)),
-        (Call::Withdraw { plane: 0, prefix: s.wide }, Err(Refusal::NotHeld)),
-        (Call::Announce { plane: 0, prefix: s.host, hop: s.two }, Ok(Done)),
-        (Call::Lookup { address: s.inside, bound: width }, Ok(Found(Some((width, s.two))))),
-        (Call::Lookup { address: s.inside, bound: width - 1 }, Ok(Found(Some((16, s.one))))),
-        (Call::Lookup { address: s.outside, bound: width }, Ok(Found(Some((0, s.two))))),
+        (withdraw(0, s.wide), Ok(Done)),
+        (withdraw(0, s.wide), Err(Refusal::NotHeld)),
+        (announce(0, s.host, s.two), Ok(Done)),
+        (lookup(s.inside, width), Ok(Found(Some((width, s.two))))),
+        (lookup(s.inside, width - 1), Ok(Found(Some((16, s.one))))),
+        (lookup(s.outside, width), Ok(Found(Some((0, s.two))))),
     ]
 }
 
 // Runs the calls on a fresh sorted list of three rows, and on a fresh PATRICIA table of three nodes: none of the prefixes part.
-fn check_calls<A: Address + PartialEq + fmt::Debug + Drop>(
-    rt: &HostRuntime,
-    sample: Sample<A>,
-) -> Result<(), Fail> {
-    let steps = calls_and_replies(&sample);
-    let mut rows = [Row::blank(); 3];
-    let mut list: Sorted<A> = Sorted::new(&mut rows);
-    check(rt.alloc(), &mut list, &steps)?;
-    let mut nodes = [Node::blank(); 3];
-    let mut trie: Patricia<A> = Patricia::new(&mut nodes);
-    check(rt.alloc(), &mut trie, &steps)
+// A macro: in a function over any kind, the size of these tables and of the list of calls stays open (`room`, `array`).
+macro_rules! check_calls {
+    ($rt:expr, $kind:ty, $sample:expr) => {{
+        let steps = calls_and_replies(&$sample);
+        let mut rows = [Row::blank(); 3];
+        let mut list: Sorted<$kind> = Sorted::new(&mut rows);
+        check($rt.alloc(), &mut list, &steps)?;
+        let mut nodes = [Node::blank(); 3];
+        let mut trie: Patricia<$kind> = Patricia::new(&mut nodes);
+        check($rt.alloc(), &mut trie, &steps)
+    }};
 }
 
 #[test]
@@ -94,7 +94,7 @@ fn ipv4_calls(rt: HostRuntime) -> Result<(), Fail> {
         one: ip(0xc000_0201),
         two: ip(0xc000_0202),
     };
-    check_calls(&rt, sample)
+    check_calls!(rt, Ipv4, sample)
 }
 
 #[test]
@@ -110,7 +110,7 @@ fn ipv6_calls(rt: HostRuntime) -> Result<(), Fail> {
         one: Ipv6::new(1, 1),
         two: Ipv6::new(1, 2),
     };
-    check_calls(&rt, sample)
+    check_calls!(rt, Ipv6, sample)
 }
 
 #[test]
@@ -126,7 +126,7 @@ fn mac48_calls(rt: HostRuntime) -> Result<(), Fail> {
         one: mac(1)?,
         two: mac(2)?,
     };
-    check_calls(&rt, sample)
+    check_calls!(rt, Mac48, sample)
 }
 
 // Lengths and bits that make a prefix, and those that do not.
@@ -137,14 +137,8 @@ fn prefixes(rt: HostRuntime) -> Result<(), Fail> {
     assert_eq!(rt; ten.prefix(33), Err(PrefixRefusal::TooLong));
     assert!(rt; ten.prefix(7).is_ok());
     assert_eq!(rt; ten.prefix(6), Err(PrefixRefusal::StrayBits));
-    assert_eq!(rt;
-        ip(0x0a00_0001).prefix(8),
-        Err(PrefixRefusal::StrayBits)
-    );
-    assert_eq!(rt;
-        ip(0x0a00_0001).prefix(255),
-        Err(PrefixRefusal::TooLong)
-    );
+    assert_eq!(rt; ip(0x0a00_0001).prefix(8), Err(PrefixRefusal::StrayBits));
+    assert_eq!(rt; ip(0x0a00_0001).prefix(255), Err(PrefixRefusal::TooLong));
     let one = Ipv6::new(0, 1);
     assert!(rt; one.prefix(128).is_ok());
     assert_eq!(rt; one.prefix(129), Err(PrefixRefusal::TooLong));
