@@ -7,7 +7,7 @@ use trie::node::Node;
 use trie::search::{End, seek};
 
 // How a prefix stands to that of the node where the search for it ends.
-#[derive(Clone, Copy)]
+#[derive(Clone, Copy, PartialEq, Eq, Debug)]
 pub enum Meeting {
     // it is the same
     Same,
@@ -23,21 +23,16 @@ pub enum Meeting {
 fn meet(node: u8, key: u8, shared: u8) -> Meeting
     ensures { Meets node key shared result }
 {
-    if shared < node {
-        if shared < key {
-            Meeting::Apart
-        } else {
-            Meeting::Above
-        }
-    } else if shared < key {
-        Meeting::Below
-    } else {
-        Meeting::Same
+    match (shared < node, shared < key) {
+        (false, false) => Meeting::Same,
+        (false, true) => Meeting::Below,
+        (true, false) => Meeting::Above,
+        (true, true) => Meeting::Apart,
     }
 }
 
 // What a new route does to the trie, with the place where the search for it ended.
-#[derive(Clone, Copy)]
+#[derive(Clone, Copy, PartialEq, Eq, Debug)]
 pub enum Plan {
     // it is the first node of all
     Root,

@@ -7,7 +7,7 @@ use trie::links::{child, linked};
 use trie::node::{NIL, Node};
 
 // The link from a slot on one side.
-#[derive(Clone, Copy)]
+#[derive(Clone, Copy, PartialEq, Eq, Debug)]
 pub struct Edge {
     pub slot: usize,
     pub side: bool,

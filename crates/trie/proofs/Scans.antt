@@ -2,7 +2,7 @@
 use Rattle.std.proofs.Common.{◌≡◌, ℕ, ◌<◌, ◌≤◌, ◌≢◌, ◌⊎◌, List, Some, None, Option, sym, ap, ◌∙◌, subst, inl, inr, lt_trans, lt_irrefl, le_refl, arith}
 use Rattle.std.proofs.lemmas.Bool.{cases_lt}
 use Rattle.trie.specs.declared.node.Node.{Node}
-use Rattle.trie.specs.Nodes.{at, node_bit, child}
+use Rattle.trie.specs.Nodes.{at, node_bit}
 use Rattle.trie.specs.Trie.{Under, Beyond, Compressed}
 use Rattle.trie.specs.Search.{UpTo, Stepped, Reaches, First, Best, Scan}
 

@@ -9,7 +9,7 @@ pub const NIL: u16 = 65535;
 
 // A node: its prefix, the next hop of its route (a branch has none), and the slots of the nodes below it, the
 // left one for the next bit 0 and the right one for the next bit 1.
-#[derive(Clone, Copy)]
+#[derive(Clone, Copy, PartialEq, Eq, Debug)]
 pub struct Node {
     pub prefix: Front,
     pub hop: Option<Halves>,

@@ -11,7 +11,7 @@ use bits::front::Front;
 use bits::halves::Halves;
 
 // Where a search for a prefix ends: a slot, and how many first bits its node has in common with the prefix.
-#[derive(Clone, Copy)]
+#[derive(Clone, Copy, PartialEq, Eq, Debug)]
 pub struct End {
     pub slot: usize,
     pub shared: u8,

@@ -6,13 +6,8 @@ use Rattle.trie.proofs.Pruning.{cleared, dropped}
 use Rattle.trie.proofs.Entries.{dropped_is}
 use Rattle.pool.proofs.edit.take.Goals as goal
 
-pub release-requires : goal.release-requires
-release-requires c = record {
-  loose = subst (λ (ms : List Node). Loose ms c.args.used c.args.slot) (sym c.clear.ensures) (cleared c.args.ns.now c.args.used c.args.slot c.requires.trie c.requires.slot);
-  slot = c.requires.slot;
-  none = ap (λ (ms : List Node). (at ms c.args.slot).hop) c.clear.ensures
-      ∙ ap (λ (n : Node). n.hop) (get_or-set_same c.args.ns.now c.args.slot (with_hop (at c.args.ns.now c.args.slot) None) blank (omega (arith, c.requires.slot, c.requires.trie.within)));
-}
+pub release-requires-clause-loose : goal.release-requires-clause-loose
+release-requires-clause-loose c = subst (λ (ms : List Node). Loose ms c.args.used c.args.slot) (sym c.clear.ensures) (cleared c.args.ns.now c.args.used c.args.slot c.requires.trie c.requires.slot)
 
 pub returns : goal.returns
 returns c =

@@ -1,7 +1,6 @@
-use Rattle.std.proofs.Common.{◌<◌, ◌≤◌, None, arith}
-use Rattle.trie.specs.Nodes.{at, unlinked}
+use Rattle.trie.specs.Nodes.{at}
 use Rattle.trie.proofs.Commons.{reached, not_reached}
-use Rattle.trie.proofs.Scans.{scan_off, scan_last, scan_next, longer}
+use Rattle.trie.proofs.Scans.{scan_off, scan_last, scan_next}
 use Rattle.trie.proofs.search.best.Goals as goal
 
 pub returns-then-not-matches : goal.returns-then-not-matches
@@ -20,10 +19,3 @@ loop-slot-preserved c =
     scan_next _ _ c.requires.trie _ c.loop-slot.from c.in-Some.slot c.loop-slot.known c.loop-slot.invariant c.in-Some.ensures
     (reached (at c.args.ns.now c.in-Some.slot) c.args.sought c.matches.result (c.requires.trie.trie.short _ c.in-Some.ensures.0.slot) c.matches.ensures c.if-not-matches.false)
     _ c.in-Some-below.ensures
-
-pub loop-slot-smaller : goal.loop-slot-smaller
-loop-slot-smaller c =
-    let from : (at c.args.ns.now c.loop-slot.from).prefix.len ≤ (at c.args.ns.now c.in-Some.slot).prefix.len = c.in-Some.ensures.0.lower in
-    let far : (at c.args.ns.now c.in-Some.slot).prefix.len < (at c.args.ns.now c.in-Some-below.next).prefix.len = longer _ _ c.requires.trie (unlinked c.args.sought None) c.in-Some.slot _ c.in-Some.ensures.0.slot c.in-Some-below.ensures in
-    let short : (at c.args.ns.now c.in-Some-below.next).prefix.len ≤ 128 = c.requires.trie.trie.short _ (loop-slot-preserved c).slot in
-    omega (arith, from, far, short)

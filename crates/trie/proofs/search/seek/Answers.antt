@@ -23,11 +23,5 @@ next c = way_next _ _ c.requires.trie _ c.loop-node.slot _ c.common_len-both.res
     c.if-both-node.false c.if-both-key.false
     (c.child-next.ensures ∙ ap (λ (s : Bool). child s (at c.args.ns.now c.loop-node.slot)) c.bit_at.ensures) c.if-next.false
 
-pub loop-node-smaller : goal.loop-node-smaller
-loop-node-smaller c =
-    let short : (at c.args.ns.now c.child-next.result).prefix.len ≤ 128 = c.requires.trie.short c.child-next.result (next c).0.slot in
-    let lt : (at c.args.ns.now c.loop-node.slot).prefix.len < (at c.args.ns.now c.child-next.result).prefix.len = (next c).1 in
-    omega (arith, short, lt)
-
 pub loop-node-preserved : goal.loop-node-preserved
 loop-node-preserved c = (_, (next c).0)
