@@ -21,7 +21,7 @@ fn link(ns: &mut [Node], used: usize, slot: usize, side: bool, leaf: Node)
 {
     let node = ns[slot];
     ns[used] = leaf;
-    ns[slot] = linked(node, side, used as u16);
+    ns[slot] = linked(node, side, Some(used as u16));
 }
 
 // Splits the edge that leads to `slot`: the upper node takes the slot, and what was there goes into slot `used`, on that side of it.
@@ -32,7 +32,7 @@ fn split(ns: &mut [Node], used: usize, slot: usize, side: bool, upper: Node)
     ensures { ns.new ≡ with_split ns.old used slot side upper }
 {
     ns[used] = ns[slot];
-    ns[slot] = linked(upper, side, used as u16);
+    ns[slot] = linked(upper, side, Some(used as u16));
 }
 
 // Gives the node in the slot another hop, or none.

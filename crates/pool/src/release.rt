@@ -4,7 +4,7 @@ ghost use Rattle.trie.specs.Trie.{Trie, Leaf};
 ghost use Rattle.trie.specs.Changes.{swapped, Moved, Parent, Loose, Pruned, Unlinked};
 
 use trie::links::{child, linked};
-use trie::node::{NIL, Node};
+use trie::node::Node;
 
 // The link from a slot on one side.
 #[derive(Clone, Copy, PartialEq, Eq, Debug)]
@@ -14,19 +14,18 @@ pub struct Edge {
 }
 
 // The link that leads to `slot`, which is not the root.
-fn parent(ns: &[Node], used: usize, slot: usize) -> Edge
-    requires trie { Trie (at ns.now) used }
-    requires within { used ≤ length ns.now }
-    requires slot { slot < used }
+fn parent(ns: &[Node], slot: usize) -> Edge
+    requires trie { Trie (at ns.now) (length ns.now) }
+    requires slot { slot < length ns.now }
     requires lower { 0 < slot }
-    ensures { Parent ns.now used slot result.slot result.side }
+    ensures { Parent ns.now (length ns.now) slot result.slot result.side }
 {
     let key = ns[slot].prefix.bits;
     let mut above = 0usize;
     loop {
-        let node = ns[above];
+        let node = &ns[above];
         let side = key.bit_at(node.prefix.len);
-        let next = child(&node, side) as usize;
+        let next = usize::from(child(node, side).unwrap());
         if next == slot {
             return Edge { slot: above, side };
         }
@@ -46,10 +45,10 @@ fn exchange(ns: &mut [Node], used: usize, slot: usize)
     if slot == last {
         return;
     }
-    let to_last = parent(ns, used, last);
-    let to_slot = parent(ns, used, slot);
-    ns[to_last.slot] = linked(ns[to_last.slot], to_last.side, slot as u16);
-    ns[to_slot.slot] = linked(ns[to_slot.slot], to_slot.side, last as u16);
+    let to_last = parent(&ns[..used], last);
+    let to_slot = parent(&ns[..used], slot);
+    ns[to_last.slot] = linked(ns[to_last.slot], to_last.side, Some(slot as u16));
+    ns[to_slot.slot] = linked(ns[to_slot.slot], to_slot.side, Some(last as u16));
     ns.swap(slot, last);
 }
 
@@ -75,8 +74,7 @@ fn pull(ns: &mut [Node], used: usize, slot: usize, side: bool) -> usize
     requires other { (b : Bool) → b ≢ side → next b (at ns.old slot) ≡ 65535 }
     ensures { Pruned ns.old used ns.new result }
 {
-    let node = ns[slot];
-    let lower = child(&node, side) as usize;
+    let lower = usize::from(child(&ns[slot], side).unwrap());
     let last = used - 1;
     exchange(ns, used, lower);
     let to = moved(slot, lower, last);
@@ -84,7 +82,7 @@ fn pull(ns: &mut [Node], used: usize, slot: usize, side: bool) -> usize
     last
 }
 
-// Takes `slot`, a leaf without a route, from under the node above it. The link that led there, now NIL.
+// Takes `slot`, a leaf without a route, from under the node above it. The link that led there, now none.
 fn unlink(ns: &mut [Node], used: usize, slot: usize) -> Edge
     requires loose { Loose ns.old used slot }
     requires slot { slot < used }
@@ -93,14 +91,32 @@ fn unlink(ns: &mut [Node], used: usize, slot: usize) -> Edge
     requires leaf { Leaf (at ns.old slot) }
     ensures { Unlinked ns.old used ns.new result.slot result.side }
 {
-    let edge = parent(ns, used, slot);
+    let edge = parent(&ns[..used], slot);
     let last = used - 1;
     exchange(ns, used, slot);
     let to = moved(edge.slot, slot, last);
-    ns[to] = linked(ns[to], edge.side, NIL);
+    ns[to] = linked(ns[to], edge.side, None);
     Edge {
         slot: to,
         side: edge.side,
+    }
+}
+
+// Releases `slot`, a leaf without a route, and the branch above it that is left with one node beneath. How many nodes are then in use.
+fn remove_leaf(ns: &mut [Node], used: usize, slot: usize) -> usize
+    requires loose { Loose ns.old used slot }
+    requires slot { slot < used }
+    requires none { (at ns.old slot).hop ≡ None }
+    requires leaf { Leaf (at ns.old slot) }
+    ensures { Pruned ns.old used ns.new result }
+{
+    if slot == 0 {
+        return 0;
+    }
+    let edge = unlink(ns, used, slot);
+    match ns[edge.slot].hop {
+        Some(_) => used - 1,
+        None => pull(ns, used - 1, edge.slot, !edge.side),
     }
 }
 
@@ -112,23 +128,10 @@ pub fn release(ns: &mut [Node], used: usize, slot: usize) -> usize
     requires none { (at ns.old slot).hop ≡ None }
     ensures { Pruned ns.old used ns.new result }
 {
-    let node = ns[slot];
-    if node.left != NIL {
-        if node.right != NIL {
-            return used;
-        }
-        return pull(ns, used, slot, false);
-    }
-    if node.right != NIL {
-        return pull(ns, used, slot, true);
-    }
-    if slot == 0 {
-        return 0;
-    }
-    let edge = unlink(ns, used, slot);
-    let upper = ns[edge.slot];
-    match upper.hop {
-        Some(_) => used - 1,
-        None => pull(ns, used - 1, edge.slot, !edge.side),
+    match (ns[slot].left, ns[slot].right) {
+        (Some(_), Some(_)) => used,
+        (Some(_), None) => pull(ns, used, slot, false),
+        (None, Some(_)) => pull(ns, used, slot, true),
+        (None, None) => remove_leaf(ns, used, slot),
     }
 }

@@ -1,22 +1,43 @@
 -- A trie with one node more.
-use Rattle.std.proofs.Common.{◌≡◌, ℕ, suc, ◌<◌, ◌≤◌, Bool, true, false, ◌≢◌, ◌⊎◌, List, length, set, sym, refl, ◌∙◌, subst, inl, inr, le_refl, arith, length-set, get_or-set_other, get_or-set_same}
+use Rattle.std.proofs.Common.{◌≡◌, ℕ, suc, ◌<◌, ◌≤◌, Bool, true, false, ◌≢◌, ◌⊎◌, List, length, set, Some, None, Option, sym, refl, ap, ◌∙◌, subst, inl, inr, le_refl, lt_irrefl, arith, length-set, get_or-set_other, get_or-set_same}
 use Rattle.std.proofs.lemmas.Bool.{cases_lt, cases_eq, cases_order, true≢false, false≢true}
 use Rattle.trie.specs.declared.node.Node.{Node}
-use Rattle.trie.specs.Nodes.{node_bit, child, with_child, at, blank}
+use Rattle.trie.specs.Nodes.{node_bit, link, slot_of, child, with_child, at, blank}
 use Rattle.trie.specs.Trie.{Agree, Begins, Leads, Under, Beyond, Trie, Leaf}
 use Rattle.trie.specs.Changes.{with_leaf, with_split}
 use Rattle.trie.proofs.Nodes.{under_refl, under_trans, beyond_under, beyond_further}
 
 -- the children of a node with one link changed
-pub child_with : (b s : Bool) (n : Node) (c : ℕ) → ((b ≡ s) × (child b (with_child s n c) ≡ c)) ⊎ ((b ≢ s) × (child b (with_child s n c) ≡ child b n))
+pub child_with : (b s : Bool) (n : Node) (c : Option ℕ) → ((b ≡ s) × (child b (with_child s n c) ≡ slot_of c)) ⊎ ((b ≢ s) × (child b (with_child s n c) ≡ child b n))
 child_with true true n c = inl (refl, refl)
 child_with true false n c = inr (true≢false, refl)
 child_with false true n c = inr (false≢true, refl)
 child_with false false n c = inl (refl, refl)
 
 pub leaf_child : (b : Bool) (n : Node) → Leaf n → child b n ≡ 65535
-leaf_child true n l = l.right
-leaf_child false n l = l.left
+leaf_child true n l = ap slot_of l.right
+leaf_child false n l = ap slot_of l.left
+
+-- a link to a slot in use, or none, is none to slot 65,535
+pub sure_some : (u : ℕ) → u < 65535 → ◌≢◌ {A = Option ℕ} (Some u) (Some 65535)
+sure_some u l e = lt_irrefl 65535 (let z : u ≡ 65535 = ap slot_of e in omega (arith, z, l))
+
+pub sure_none : ◌≢◌ {A = Option ℕ} None (Some 65535)
+sure_none e = let z : ◌≡◌ {A = ℕ} 1 0 = ap gone e in omega (arith, z)
+  where
+    gone : Option ℕ → ℕ
+    gone None = 1
+    gone (Some i) = 0
+
+pub sure_with : (b s : Bool) (n : Node) (c : Option ℕ) → c ≢ Some 65535 → link b n ≢ Some 65535 → link b (with_child s n c) ≢ Some 65535
+sure_with true true n c p q = p
+sure_with true false n c p q = q
+sure_with false true n c p q = q
+sure_with false false n c p q = p
+
+pub sure_leaf : (b : Bool) (n : Node) → Leaf n → link b n ≢ Some 65535
+sure_leaf true n l e = sure_none (sym l.right ∙ e)
+sure_leaf false n l e = sure_none (sym l.left ∙ e)
 
 -- the slots after x was put into slot u, and y into slot i
 module _ (ns : List Node) (u i : ℕ) (x y : Node) (iu : i < u) (ul : u < length ns) where
@@ -54,7 +75,7 @@ module _ (ns : List Node) (u i : ℕ) (s : Bool) (x : Node) (iu : i < u) (ul : u
   f = at ns
 
   y : Node
-  y = with_child s (at ns i) u
+  y = with_child s (at ns i) (Some u)
 
   g : ℕ → Node
   g = after ns u i x y iu ul
@@ -86,7 +107,7 @@ module _ (ns : List Node) (u i : ℕ) (s : Bool) (x : Node) (iu : i < u) (ul : u
   kids : (b : Bool) (j : ℕ) → j < suc u → child b (g j) ≢ 65535 → (child b (g j) < suc u) × Beyond b (g j) (g (child b (g j)))
   unfolding y
   kids b = at_each (λ (j : ℕ) (n : Node). child b n ≢ 65535 → (child b n < suc u) × Beyond b n (g (child b n)))
-      (elim (child_with b s (at ns i) u) [
+      (elim (child_with b s (at ns i) (Some u)) [
         | inl p ↦ subst (λ (c : ℕ). c ≢ 65535 → (c < suc u) × Beyond b (at ns i) (g c)) (sym p.1) (λ _. (le_refl _, new (λ m w. Leads b (at ns i).prefix.len (node_bit (at ns i)) m w) (subst (λ (z : Bool). Beyond z (at ns i) x) (sym p.0) go)))
         | inr p ↦ subst (λ (c : ℕ). c ≢ 65535 → (c < suc u) × Beyond b (at ns i) (g c)) (sym p.1) (stays i iu)
       ])
@@ -105,13 +126,13 @@ module _ (ns : List Node) (u i : ℕ) (s : Bool) (x : Node) (iu : i < u) (ul : u
       up : (j : ℕ) (m : Node) → (child b (at ns j) < u) × Under (at ns (child b (at ns j))) m → (child b (at ns j) < suc u) × Under (g (child b (at ns j))) m
       up j m r = (omega (arith, r.0), seen (child b (at ns j)) r.0 (λ n w. Begins n w m.prefix.len (node_bit m)) r.1)
 
-      at_i : (k : ℕ) → k < suc u → Beyond b (with_child s (at ns i) u) (g k) → (child b (with_child s (at ns i) u) < suc u) × Under (g (child b (with_child s (at ns i) u))) (g k)
-      at_i = elim (child_with b s (at ns i) u) [
-        | inl p ↦ at_each (λ (k : ℕ) (m : Node). Beyond b (at ns i) m → (child b (with_child s (at ns i) u) < suc u) × Under (g (child b (with_child s (at ns i) u))) m)
+      at_i : (k : ℕ) → k < suc u → Beyond b (with_child s (at ns i) (Some u)) (g k) → (child b (with_child s (at ns i) (Some u)) < suc u) × Under (g (child b (with_child s (at ns i) (Some u)))) (g k)
+      at_i = elim (child_with b s (at ns i) (Some u)) [
+        | inl p ↦ at_each (λ (k : ℕ) (m : Node). Beyond b (at ns i) m → (child b (with_child s (at ns i) (Some u)) < suc u) × Under (g (child b (with_child s (at ns i) (Some u)))) m)
             (λ r. absurd (native.Mathlib.Nat.lt_irrefl _ r.long))
             (λ r. subst (λ (c : ℕ). (c < suc u) × Under (g c) x) (sym p.1) (le_refl _, new (λ n w. Begins n w x.prefix.len (node_bit x)) (under_refl x)))
             (λ k h ni r. absurd (none k h (subst (λ (z : Bool). Beyond z (at ns i) (at ns k)) p.0 r)))
-        | inr p ↦ at_each (λ (k : ℕ) (m : Node). Beyond b (at ns i) m → (child b (with_child s (at ns i) u) < suc u) × Under (g (child b (with_child s (at ns i) u))) m)
+        | inr p ↦ at_each (λ (k : ℕ) (m : Node). Beyond b (at ns i) m → (child b (with_child s (at ns i) (Some u)) < suc u) × Under (g (child b (with_child s (at ns i) (Some u)))) m)
             (λ r. absurd (native.Mathlib.Nat.lt_irrefl _ r.long))
             (λ r. absurd (p.0 (sym r.side ∙ go.side)))
             (λ k h ni r. subst (λ (c : ℕ). (c < suc u) × Under (g c) (at ns k)) (sym p.1) (up i (at ns k) (t.full b i k iu h r)))
@@ -157,6 +178,7 @@ module _ (ns : List Node) (u i : ℕ) (s : Bool) (x : Node) (iu : i < u) (ul : u
     short = at_each (λ (j : ℕ) (n : Node). n.prefix.len ≤ 128) (t.short i iu) short (λ j h ni. t.short j h);
     top = at_each (λ (j : ℕ) (n : Node). Under (g 0) n)
         (root (at ns i) (t.top i iu)) (root x (under_trans (at ns 0) (at ns i) x (t.top i iu) under_x)) (λ j h ni. root (at ns j) (t.top j h));
+    sure = λ b. at_each (λ (j : ℕ) (n : Node). link b n ≢ Some 65535) (sure_with b s (at ns i) (Some u) (sure_some u few) (t.sure b i iu)) (sure_leaf b x leaf) (λ j h ni. t.sure b j h);
     kid = kids;
     full = fulls;
     apart = aparts;
@@ -170,7 +192,7 @@ module _ (ns : List Node) (u i : ℕ) (s : Bool) (K : Node) (iu : i < u) (ul : u
     (above : (j : ℕ) → j < u → (at ns j).prefix.len < (at ns i).prefix.len → Agree (at ns j).prefix.len (node_bit (at ns j)) (node_bit (at ns i)) → (at ns j).prefix.len < K.prefix.len)
     (below : (j : ℕ) → j < u → K.prefix.len ≤ (at ns j).prefix.len → Agree K.prefix.len (node_bit (at ns j)) (node_bit K) → Under (at ns i) (at ns j)) where
   yl : Node
-  yl = with_child s K u
+  yl = with_child s K (Some u)
 
   gl : ℕ → Node
   gl = after ns u i (at ns i) yl iu ul
@@ -208,7 +230,7 @@ module _ (ns : List Node) (u i : ℕ) (s : Bool) (K : Node) (iu : i < u) (ul : u
   l_kids : (b : Bool) (j : ℕ) → j < suc u → child b (gl j) ≢ 65535 → (child b (gl j) < suc u) × Beyond b (gl j) (gl (child b (gl j)))
   unfolding yl
   l_kids b = l_each (λ (j : ℕ) (n : Node). child b n ≢ 65535 → (child b n < suc u) × Beyond b n (gl (child b n)))
-      (elim (child_with b s K u) [
+      (elim (child_with b s K (Some u)) [
         | inl p ↦ subst (λ (c : ℕ). c ≢ 65535 → (c < suc u) × Beyond b K (gl c)) (sym p.1) (λ _. (le_refl _, l_new (λ m w. Leads b K.prefix.len (node_bit K) m w) (subst (λ (z : Bool). Beyond z K (at ns i)) (sym p.0) lower)))
         | inr p ↦ (λ ne. absurd (ne (p.1 ∙ leaf_child b K leaf)))
       ])
@@ -227,13 +249,13 @@ module _ (ns : List Node) (u i : ℕ) (s : Bool) (K : Node) (iu : i < u) (ul : u
       up : (j : ℕ) (m : Node) → (child b (at ns j) < u) × Under (at ns (child b (at ns j))) m → (child b (at ns j) < suc u) × Under (gl (child b (at ns j))) m
       up j m r = (omega (arith, r.0), l_old (λ n w. Begins n w m.prefix.len (node_bit m)) (child b (at ns j)) r.0 (λ e. move m (child b (at ns j)) e r.1) (λ _. r.1))
 
-      at_i : (k : ℕ) → k < suc u → Beyond b K (gl k) → (child b (with_child s K u) < suc u) × Under (gl (child b (with_child s K u))) (gl k)
-      at_i = elim (child_with b s K u) [
-        | inl p ↦ l_each (λ (k : ℕ) (m : Node). Beyond b K m → (child b (with_child s K u) < suc u) × Under (gl (child b (with_child s K u))) m)
+      at_i : (k : ℕ) → k < suc u → Beyond b K (gl k) → (child b (with_child s K (Some u)) < suc u) × Under (gl (child b (with_child s K (Some u)))) (gl k)
+      at_i = elim (child_with b s K (Some u)) [
+        | inl p ↦ l_each (λ (k : ℕ) (m : Node). Beyond b K m → (child b (with_child s K (Some u)) < suc u) × Under (gl (child b (with_child s K (Some u)))) m)
             (λ r. absurd (native.Mathlib.Nat.lt_irrefl _ r.long))
             (λ r. subst (λ (c : ℕ). (c < suc u) × Under (gl c) (at ns i)) (sym p.1) (le_refl _, l_new (λ n w. Begins n w (at ns i).prefix.len (node_bit (at ns i))) (under_refl (at ns i))))
             (λ k h ni r. subst (λ (c : ℕ). (c < suc u) × Under (gl c) (at ns k)) (sym p.1) (le_refl _, l_new (λ n w. Begins n w (at ns k).prefix.len (node_bit (at ns k))) (below k h (omega (arith, r.long)) (λ m q. sym (r.same m q)))))
-        | inr p ↦ l_each (λ (k : ℕ) (m : Node). Beyond b K m → (child b (with_child s K u) < suc u) × Under (gl (child b (with_child s K u))) m)
+        | inr p ↦ l_each (λ (k : ℕ) (m : Node). Beyond b K m → (child b (with_child s K (Some u)) < suc u) × Under (gl (child b (with_child s K (Some u)))) m)
             (λ r. absurd (native.Mathlib.Nat.lt_irrefl _ r.long))
             (λ r. absurd (p.0 (sym r.side ∙ lower.side)))
             (λ k h ni r. absurd (p.0 (sym r.side ∙ sym ((below k h (omega (arith, r.long)) (λ m q. sym (r.same m q))).same K.prefix.len lower.long) ∙ lower.side)))
@@ -278,6 +300,7 @@ module _ (ns : List Node) (u i : ℕ) (s : Bool) (K : Node) (iu : i < u) (ul : u
     top = l_each (λ (j : ℕ) (n : Node). Under (gl 0) n)
         (l_old (λ m w. Begins m w K.prefix.len (node_bit K)) 0 (omega arith) (λ e. under_refl K) (λ n0. low_under 0 (omega arith) n0 (t.top i iu)))
         (root (at ns i) (t.top i iu)) (λ j h ni. root (at ns j) (t.top j h));
+    sure = λ b. l_each (λ (j : ℕ) (n : Node). link b n ≢ Some 65535) (sure_with b s K (Some u) (sure_some u few) (sure_leaf b K leaf)) (t.sure b i iu) (λ j h ni. t.sure b j h);
     kid = l_kids;
     full = l_fulls;
     apart = l_aparts;

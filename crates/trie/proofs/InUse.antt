@@ -6,7 +6,7 @@ use Rattle.bits.specs.Bits.{Bits}
 use Rattle.bits.specs.declared.halves.Halves.{Halves}
 use Rattle.model.specs.Maps.{Map, held}
 use Rattle.trie.specs.declared.node.Node.{Node}
-use Rattle.trie.specs.Nodes.{at, blank, node_bit, key, child, collected, entries, holds}
+use Rattle.trie.specs.Nodes.{at, blank, node_bit, key, link, child, collected, entries, holds}
 use Rattle.trie.specs.Trie.{Agree, Under, Trie, Compressed}
 use Rattle.trie.specs.Search.{Shared, Found, Located, Covering, UpTo, Best}
 use Rattle.trie.specs.Changes.{Parent}
@@ -19,6 +19,7 @@ module _ (f g : ℕ → Node) (u : ℕ) (same : (j : ℕ) → j < u → f j ≡ 
 
   trie_same : Trie f u → Trie g u
   trie_same t = renamed f g u t (λ j. j) (λ j. refl) (λ j h. h) refl refl (λ j h. ap (λ (n : Node). n.prefix.len) (sym (same j h))) (λ j h. ap node_bit (sym (same j h))) (λ b j h. ap (child b) (sym (same j h)))
+      (λ b j h. subst (λ (n : Node). link b n ≢ Some 65535) (same j h) (t.sure b j h))
 
   found_same : (k : Node) (i c : ℕ) → Found f u k i c → Found g u k i c
   found_same k i c r = record {

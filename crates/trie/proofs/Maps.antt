@@ -49,7 +49,7 @@ module _ (ns : List Node) (u i : ℕ) (s : Bool) (x : Node) (iu : i < u) (ul : u
       (λ _. (i, iu, refl)) (λ ne. absurd (ne refl)) (λ j hj nj _. (j, hj, refl)))
     where
       y : Node
-      y = with_child s (at ns i) u
+      y = with_child s (at ns i) (Some u)
 
 -- a node put above slot i
 module _ (ns : List Node) (u i : ℕ) (s : Bool) (K : Node) (iu : i < u) (ul : u < length ns) (t : Trie (at ns) u) (t' : Trie (at (with_split ns u i s K)) (suc u)) where
@@ -65,7 +65,7 @@ module _ (ns : List Node) (u i : ℕ) (s : Bool) (K : Node) (iu : i < u) (ul : u
       (λ ne. absurd (ne refl)) (λ _. (i, iu, refl)) (λ j hj nj _. (j, hj, refl)))
     where
       y : Node
-      y = with_child s K u
+      y = with_child s K (Some u)
 
 -- another hop in slot i
 module _ (ns : List Node) (u i : ℕ) (h : Option Halves) (iu : i < u) (ul : u ≤ length ns) (t : Trie (at ns) u) where
@@ -90,9 +90,9 @@ module _ (ns : List Node) (u i : ℕ) (h : Option Halves) (iu : i < u) (ul : u �
   unfolding strip
   hop_trie =
       let e : (λ (j : ℕ). strip (at ns j)) ≡ (λ (j : ℕ). strip (at (set ns i (with_hop (at ns i) h)) j)) = fun_ext (λ j. sym (hop_each (λ (j : ℕ) (n : Node). strip n ≡ strip (at ns j)) refl (λ k ni. refl) j)) in
-      let a : Trie (λ (j : ℕ). strip (at ns j)) u = record { few = t.few; short = t.short; top = t.top; kid = t.kid; full = t.full; apart = t.apart } in
+      let a : Trie (λ (j : ℕ). strip (at ns j)) u = record { few = t.few; short = t.short; sure = t.sure; top = t.top; kid = t.kid; full = t.full; apart = t.apart } in
       let b : Trie (λ (j : ℕ). strip (at (set ns i (with_hop (at ns i) h)) j)) u = subst (λ (f : ℕ → Node). Trie f u) e a in
-      record { few = b.few; short = b.short; top = b.top; kid = b.kid; full = b.full; apart = b.apart }
+      record { few = b.few; short = b.short; sure = b.sure; top = b.top; kid = b.kid; full = b.full; apart = b.apart }
 
   pub hop_holds : holds (set ns i (with_hop (at ns i) h)) u ≡ altered (holds ns u) (key (at ns i)) h
   unfolding key

@@ -1,11 +1,11 @@
 -- Slots that change places.
-use Rattle.std.proofs.Common.{◌≡◌, ℕ, ◌<◌, ◌≤◌, Bool, true, false, ◌≢◌, ◌⊎◌, List, length, get_or, set, None, sym, refl, ap, ◌∙◌, subst, inl, inr, lt_irrefl, arith, length-set, get_or-set_other, get_or-set_same}
+use Rattle.std.proofs.Common.{◌≡◌, ℕ, ◌<◌, ◌≤◌, Bool, true, false, ◌≢◌, ◌⊎◌, List, length, get_or, set, Some, None, Option, sym, refl, ap, ◌∙◌, subst, inl, inr, lt_irrefl, arith, length-set, get_or-set_other, get_or-set_same}
 use Rattle.std.proofs.lemmas.Bool.{cases_lt, cases_eq, eq-eqb, ne_eqb, cond-true, cond-false, true≢false, false≢true}
 use Rattle.trie.specs.declared.node.Node.{Node}
-use Rattle.trie.specs.Nodes.{node_bit, child, with_child, at, blank, key, holds}
+use Rattle.trie.specs.Nodes.{node_bit, link, slot_of, child, with_child, at, blank, key, holds}
 use Rattle.trie.specs.Trie.{Under, Beyond, Trie}
 use Rattle.trie.specs.Changes.{swapped, bare, Moved, Parent}
-use Rattle.trie.proofs.Grow.{child_with}
+use Rattle.trie.proofs.Grow.{child_with, sure_some, sure_with}
 use Rattle.trie.proofs.Shrink.{one_parent, renamed}
 use Rattle.trie.proofs.Maps.{same_holds}
 
@@ -49,7 +49,7 @@ pub swapped_in : (h l u j : ℕ) → h < u → l < u → j < u → swapped h l j
 swapped_in h l u j a b = swapped_each h l (λ j k. j < u → k < u) (λ _. b) (λ _. a) (λ j n m p. p) j
 
 -- one link changed
-module _ (ns : List Node) (q : ℕ) (s : Bool) (c : ℕ) (l : q < length ns) where
+module _ (ns : List Node) (q : ℕ) (s : Bool) (c : Option ℕ) (l : q < length ns) where
   pub relink_each : (P : ℕ → Node → Type 0) → P q (with_child s (at ns q) c) → ((x : ℕ) → x ≢ q → P x (at ns x)) → (x : ℕ) → P x (at (set ns q (with_child s (at ns q) c)) x)
   relink_each P a b x = elim (cases_eq x q) [
     | inl e ↦ subst (λ (k : ℕ). P k (at (set ns q (with_child s (at ns q) c)) k)) (sym e) (subst (P q) (sym (get_or-set_same ns q (with_child s (at ns q) c) blank l)) a)
@@ -59,7 +59,10 @@ module _ (ns : List Node) (q : ℕ) (s : Bool) (c : ℕ) (l : q < length ns) whe
   pub relink_bare : (x : ℕ) → bare (at (set ns q (with_child s (at ns q) c)) x) ≡ bare (at ns x)
   relink_bare = relink_each (λ (x : ℕ) (n : Node). bare n ≡ bare (at ns x)) refl (λ x n. refl)
 
-  pub relink_hit : child s (at (set ns q (with_child s (at ns q) c)) q) ≡ c
+  pub relink_sure : (u : ℕ) → q < u → c ≢ Some 65535 → ((b : Bool) (x : ℕ) → x < u → link b (at ns x) ≢ Some 65535) → (b : Bool) (x : ℕ) → x < u → link b (at (set ns q (with_child s (at ns q) c)) x) ≢ Some 65535
+  relink_sure u qu n all b = relink_each (λ (x : ℕ) (m : Node). x < u → link b m ≢ Some 65535) (λ _. sure_with b s (at ns q) c n (all b q qu)) (λ x _. all b x)
+
+  pub relink_hit : child s (at (set ns q (with_child s (at ns q) c)) q) ≡ slot_of c
   relink_hit = ap (child s) (get_or-set_same ns q (with_child s (at ns q) c) blank l) ∙ elim (child_with s s (at ns q) c) [ inl p ↦ p.1 | inr p ↦ absurd (p.0 refl) ]
 
   pub relink_miss : (b : Bool) (x : ℕ) → ((x ≡ q) × (b ≡ s) → ⊥) → child b (at (set ns q (with_child s (at ns q) c)) x) ≡ child b (at ns x)
@@ -78,10 +81,10 @@ cases_link a b i j = elim (cases_eq i j) [ inr n ↦ inr (λ z. n z.0) | inl e �
 -- both links changed, then both slots
 module _ (ns : List Node) (u h l q p : ℕ) (s r : Bool) (ul : u ≤ length ns) (t : Trie (at ns) u) (hu : h < u) (lu : l < u) (ne : h ≢ l) (pq : Parent ns u l q s) (pp : Parent ns u h p r) where
   abbrev n1 : List Node
-  n1 = set ns q (with_child s (at ns q) h)
+  n1 = set ns q (with_child s (at ns q) (Some h))
 
   abbrev n2 : List Node
-  n2 = set n1 p (with_child r (at n1 p) l)
+  n2 = set n1 p (with_child r (at n1 p) (Some l))
 
   q1 : q < length ns
   q1 = omega (arith, pq.slot)
@@ -90,41 +93,45 @@ module _ (ns : List Node) (u h l q p : ℕ) (s r : Bool) (ul : u ≤ length ns) 
   p1 = rw length-set (omega (arith, pp.slot))
 
   bare2 : (x : ℕ) → bare (at n2 x) ≡ bare (at ns x)
-  bare2 x = relink_bare n1 p r l p1 x ∙ relink_bare ns q s h q1 x
+  bare2 x = relink_bare n1 p r (Some l) p1 x ∙ relink_bare ns q s (Some h) q1 x
 
   links2 : (b : Bool) (x : ℕ) → x < u → child b (at n2 x) ≡ swapped h l (child b (at ns x))
   links2 b x hx = elim (cases_link b r x p) [
-    | inl z ↦ ap (λ (a : Bool). child a (at n2 x)) z.1 ∙ ap (λ (k : ℕ). child r (at n2 k)) z.0 ∙ relink_hit n1 p r l p1 ∙ sym (swapped_l h l)
+    | inl z ↦ ap (λ (a : Bool). child a (at n2 x)) z.1 ∙ ap (λ (k : ℕ). child r (at n2 k)) z.0 ∙ relink_hit n1 p r (Some l) p1 ∙ sym (swapped_l h l)
         ∙ ap (swapped h l) (sym (ap (λ (a : Bool). child a (at ns x)) z.1 ∙ ap (λ (k : ℕ). child r (at ns k)) z.0 ∙ pp.link))
-    | inr z ↦ relink_miss n1 p r l p1 b x z ∙ (elim (cases_link b s x q) [
-      | inl y ↦ ap (λ (a : Bool). child a (at n1 x)) y.1 ∙ ap (λ (k : ℕ). child s (at n1 k)) y.0 ∙ relink_hit ns q s h q1 ∙ sym (swapped_r h l)
+    | inr z ↦ relink_miss n1 p r (Some l) p1 b x z ∙ (elim (cases_link b s x q) [
+      | inl y ↦ ap (λ (a : Bool). child a (at n1 x)) y.1 ∙ ap (λ (k : ℕ). child s (at n1 k)) y.0 ∙ relink_hit ns q s (Some h) q1 ∙ sym (swapped_r h l)
           ∙ ap (swapped h l) (sym (ap (λ (a : Bool). child a (at ns x)) y.1 ∙ ap (λ (k : ℕ). child s (at ns k)) y.0 ∙ pq.link))
-      | inr y ↦ relink_miss ns q s h q1 b x y ∙ sym (swapped_o h l (child b (at ns x))
+      | inr y ↦ relink_miss ns q s (Some h) q1 b x y ∙ sym (swapped_o h l (child b (at ns x))
           (λ e. z (one_parent (at ns) u t b r x p h hx pp.slot hu e pp.link))
           (λ e. y (one_parent (at ns) u t b s x q l hx pq.slot lu e pq.link)))
     ])
   ]
+
+  sure2 : (b : Bool) (x : ℕ) → x < u → link b (at n2 x) ≢ Some 65535
+  sure2 = relink_sure n1 p r (Some l) p1 u pp.slot (sure_some l (omega (arith, lu, t.few))) (relink_sure ns q s (Some h) q1 u pq.slot (sure_some h (omega (arith, hu, t.few))) t.sure)
 
   pub moved : (ms : List Node) → length ms ≡ length n2 → ((d : Node) → get_or ms h d ≡ get_or n2 l d) → ((d : Node) → get_or ms l d ≡ get_or n2 h d) → ((k : ℕ) (d : Node) → (k ≡ h → ⊥) → (k ≡ l → ⊥) → get_or ms k d ≡ get_or n2 k d) → Moved ns ms u h l
   moved ms long a b c = record {
     long = long ∙ length-set n1 p _ ∙ length-set ns q _;
     nodes = λ j hj. ap bare (place j) ∙ bare2 (swapped h l j);
     links = λ d j hj. ap (child d) (place j) ∙ links2 d (swapped h l j) (swapped_in h l u j hu lu hj);
+    sure = λ d j hj. subst (λ (n : Node). link d n ≢ Some 65535) (sym (place j)) (sure2 d (swapped h l j) (swapped_in h l u j hu lu hj));
   }
     where
       place : (j : ℕ) → at ms j ≡ at n2 (swapped h l j)
       place = swapped_each h l (λ j k. at ms j ≡ at n2 k) (a blank) (b blank) (λ j n m. c j blank n m)
 
-  pub moved_by : (y1 y2 : Node) → y1 ≡ with_child s (at ns q) h → y2 ≡ with_child r (at (set ns q y1) p) l → (ms : List Node) → length ms ≡ length (set (set ns q y1) p y2)
+  pub moved_by : (y1 y2 : Node) → y1 ≡ with_child s (at ns q) (Some h) → y2 ≡ with_child r (at (set ns q y1) p) (Some l) → (ms : List Node) → length ms ≡ length (set (set ns q y1) p y2)
       → ((d : Node) → get_or ms h d ≡ get_or (set (set ns q y1) p y2) l d) → ((d : Node) → get_or ms l d ≡ get_or (set (set ns q y1) p y2) h d) → ((k : ℕ) (d : Node) → (k ≡ h → ⊥) → (k ≡ l → ⊥) → get_or ms k d ≡ get_or (set (set ns q y1) p y2) k d) → Moved ns ms u h l
   moved_by y1 y2 e1 e2 ms long a b c =
       let f1 : set ns q y1 ≡ n1 = ap (λ (y : Node). set ns q y) e1 in
-      let f2 : set (set ns q y1) p y2 ≡ n2 = ap (λ (y : Node). set (set ns q y1) p y) e2 ∙ ap (λ (x : List Node). set x p (with_child r (at x p) l)) f1 in
+      let f2 : set (set ns q y1) p y2 ≡ n2 = ap (λ (y : Node). set (set ns q y1) p y) e2 ∙ ap (λ (x : List Node). set x p (with_child r (at x p) (Some l))) f1 in
       moved ms (long ∙ ap length f2) (λ d. a d ∙ ap (λ (x : List Node). get_or x l d) f2) (λ d. b d ∙ ap (λ (x : List Node). get_or x h d) f2) (λ k d m n. c k d m n ∙ ap (λ (x : List Node). get_or x k d) f2)
 
 -- nothing changes places where h is l
-pub moved_none : (ns : List Node) (u h : ℕ) → Moved ns ns u h h
-moved_none ns u h = record { long = refl; nodes = λ j hj. ap (λ (k : ℕ). bare (at ns k)) (sym (same j)); links = λ s j hj. ap (λ (k : ℕ). child s (at ns k)) (sym (same j)) ∙ sym (same (child s (at ns (swapped h h j)))) }
+pub moved_none : (ns : List Node) (u h : ℕ) → Trie (at ns) u → Moved ns ns u h h
+moved_none ns u h t = record { long = refl; sure = t.sure; nodes = λ j hj. ap (λ (k : ℕ). bare (at ns k)) (sym (same j)); links = λ s j hj. ap (λ (k : ℕ). child s (at ns k)) (sym (same j)) ∙ sym (same (child s (at ns (swapped h h j)))) }
   where
     same : (j : ℕ) → swapped h h j ≡ j
     same = swapped_each h h (λ j k. k ≡ j) refl refl (λ j n m. refl)
@@ -136,7 +143,7 @@ module _ (ns ms : List Node) (u h l : ℕ) (m : Moved ns ms u h l) (t : Trie (at
 
   pub moved_trie : Trie (at ms) u
   moved_trie = renamed (at ns) (at ms) u t (swapped h l) (swapped_back h l) (λ j. swapped_in h l u j hu lu) (swapped_o h l 0 (omega arith) (omega arith)) moved_nil
-      (λ j hj. ap (λ (n : Node). n.prefix.len) (m.nodes j hj)) (λ j hj. ap (λ (n : Node). node_bit n) (m.nodes j hj)) m.links
+      (λ j hj. ap (λ (n : Node). n.prefix.len) (m.nodes j hj)) (λ j hj. ap (λ (n : Node). node_bit n) (m.nodes j hj)) m.links m.sure
 
   pub moved_in : u ≤ length ms
   moved_in = omega (arith, m.long)

@@ -1,9 +1,18 @@
-use Rattle.std.proofs.Common.{◌≡◌, ℕ, suc, ◌<◌, ◌≤◌, Bool, ◌≢◌, sym, refl, ap, ◌∙◌, subst, inl, inr, le_refl, not-suc-le-zero, arith}
+use Rattle.std.proofs.Common.{◌≡◌, ℕ, suc, ◌<◌, ◌≤◌, Bool, ◌≢◌, Some, None, Option, rules, sym, refl, ap, ◌∙◌, subst, inl, inr, le_refl, not-suc-le-zero, arith}
 use Rattle.std.proofs.lemmas.Bool.{cases_lt}
+use Rattle.std.specs.Option.{IsSome}
 use Rattle.trie.specs.declared.node.Node.{Node}
-use Rattle.trie.specs.Nodes.{node_bit, child}
+use Rattle.trie.specs.Nodes.{node_bit, link, slot_of, child}
 use Rattle.trie.specs.Trie.{Agree, Under, Beyond, Trie}
 use Rattle.trie.specs.Search.{Shared, Found, Way}
+
+-- a link leads to a slot
+pub linked : (f : ℕ → Node) (u : ℕ) → Trie f u → (s : Bool) (i k : ℕ) → i < u → link s (f i) ≡ Some k → child s (f i) ≢ 65535
+linked f u t s i k h e z = t.sure s i h (e ∙ ap Some (sym (ap slot_of e) ∙ z))
+
+pub is_link : (o : Option ℕ) → slot_of o ≢ 65535 → IsSome o
+is_link None n = absurd (n refl)
+is_link (Some i) n = search rules
 
 pub under_refl : (a : Node) → Under a a
 under_refl a = record { long = le_refl _; same = λ k h. refl }

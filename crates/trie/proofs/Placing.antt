@@ -1,5 +1,5 @@
 -- The four ways of an announcement.
-use Rattle.std.proofs.Common.{◌≡◌, ℕ, suc, ◌<◌, ◌≤◌, Bool, true, false, ◌≢◌, List, length, set, None, Option, sym, refl, ap, ◌∙◌, subst, inl, inr, le_refl, not-suc-le-zero, lt_irrefl, arith, lit≤, length-set, get_or-set_same}
+use Rattle.std.proofs.Common.{◌≡◌, ℕ, suc, ◌<◌, ◌≤◌, Bool, true, false, ◌≢◌, List, length, set, Some, None, Option, sym, refl, ap, ◌∙◌, subst, inl, inr, le_refl, not-suc-le-zero, lt_irrefl, arith, lit≤, length-set, get_or-set_same}
 use mathlib.Core.Path.{fun_ext}
 use Rattle.trie.proofs.Nodes.{under_refl}
 use Rattle.std.proofs.lemmas.Bool.{cond_both}
@@ -7,13 +7,13 @@ use Rattle.trie.specs.declared.node.Node.{Node}
 use Rattle.bits.specs.Bits.{equal}
 use Rattle.bits.specs.declared.halves.Halves.{Halves}
 use Rattle.model.specs.Maps.{Visible}
-use Rattle.trie.specs.Nodes.{node_bit, child, with_child, with_hop, at, blank, key, holds, altered}
+use Rattle.trie.specs.Nodes.{node_bit, link, child, with_child, with_hop, at, blank, key, holds, altered}
 use Rattle.trie.specs.Trie.{Agree, Under, Beyond, Trie, Leaf, Compressed}
 use Rattle.trie.specs.Search.{Found}
 use Rattle.trie.specs.Changes.{with_leaf, with_split, Placed}
 use Rattle.bits.proofs.Orders.{equal_is}
 use Rattle.trie.proofs.Keys.{key_same, key_size, key_agree, holds_none}
-use Rattle.trie.proofs.Grow.{each, after, after_i, child_with, leaf_child, linked_trie, split_trie}
+use Rattle.trie.proofs.Grow.{each, after, after_i, child_with, leaf_child, sure_leaf, linked_trie, split_trie}
 use Rattle.trie.proofs.Maps.{regrown, linked_holds, split_holds, hop_each, hop_trie, hop_holds}
 
 no_third : (a b c : Bool) → a ≢ b → a ≢ c → b ≢ c → ⊥
@@ -34,8 +34,8 @@ link_forks : (ns : List Node) (u i : ℕ) (s : Bool) (x : Node) → i < u → u 
     → ((at ns i).hop ≡ None → (b : Bool) → b ≢ s → child b (at ns i) ≢ 65535)
     → (j : ℕ) → j < suc u → (at (with_leaf ns u i s x) j).hop ≡ None → (b : Bool) → child b (at (with_leaf ns u i s x) j) ≢ 65535
 unfolding after
-link_forks ns u i s x iu ul few some rest here = each ns u i x (with_child s (at ns i) u) iu ul (λ (j : ℕ) (n : Node). n.hop ≡ None → (b : Bool) → child b n ≢ 65535)
-    (λ e b. elim (child_with b s (at ns i) u) [ inl p ↦ (λ z. omega (arith, p.1, z, few)) | inr p ↦ (λ z. here e b p.0 (sym p.1 ∙ z)) ])
+link_forks ns u i s x iu ul few some rest here = each ns u i x (with_child s (at ns i) (Some u)) iu ul (λ (j : ℕ) (n : Node). n.hop ≡ None → (b : Bool) → child b n ≢ 65535)
+    (λ e b. elim (child_with b s (at ns i) (Some u)) [ inl p ↦ (λ z. omega (arith, p.1, z, few)) | inr p ↦ (λ z. here e b p.0 (sym p.1 ∙ z)) ])
     (λ e b. absurd (some e))
     rest
 
@@ -55,6 +55,7 @@ module _ (ns : List Node) (room : ℕ) (g : Compressed ns 0) (k : Node) (short :
     few = lit≤ tt;
     short = single (λ j n. n.prefix.len ≤ 128) short;
     top = single (λ j n. Under (at (set ns 0 k) 0) n) (subst (λ (n : Node). Under n k) (sym first) (under_refl k));
+    sure = λ b. single (λ j n. link b n ≢ Some 65535) (sure_leaf b k leaf);
     kid = λ b. single (λ j n. child b n ≢ 65535 → (child b n < 1) × Beyond b n (at (set ns 0 k) (child b n))) (λ ne. absurd (ne (leaf_child b k leaf)));
     full = λ b i j hi hj r. let e : i ≡ j = omega arith in absurd (lt_irrefl _ (subst (λ (n : ℕ). (at (set ns 0 k) i).prefix.len < (at (set ns 0 k) n).prefix.len) (sym e) r.long));
     apart = λ i j hi hj e a. omega arith;
@@ -98,7 +99,7 @@ module _ (ns : List Node) (u room : ℕ) (g : Compressed ns u) (fits : u ≤ roo
       (record {
         within = rw (length-set, length-set) (omega arith);
         trie = trie;
-        forks = each ns u i (at ns i) (with_child (node_bit (at ns i) c) k u) r.slot (omega arith) (λ (j : ℕ) (n : Node). n.hop ≡ None → (b : Bool) → child b n ≢ 65535)
+        forks = each ns u i (at ns i) (with_child (node_bit (at ns i) c) k (Some u)) r.slot (omega arith) (λ (j : ℕ) (n : Node). n.hop ≡ None → (b : Bool) → child b n ≢ 65535)
             (λ z b. absurd (some z)) (g.forks i r.slot) (λ j h ni. g.forks j h);
       })
       ur
@@ -112,7 +113,7 @@ module _ (ns : List Node) (u room : ℕ) (g : Compressed ns u) (fits : u ≤ roo
 
   -- the branch above slot i and the new leaf
   abbrev pub branch : Node
-  branch = record { prefix = record { bits = k.prefix.bits; len = c }; hop = None; left = 65535; right = 65535 }
+  branch = record { prefix = record { bits = k.prefix.bits; len = c }; hop = None; left = None; right = None }
 
   pub way_fork : suc u < room → room ≤ length ns → room ≤ 65535 → c < (at ns i).prefix.len → c < k.prefix.len → Placed ns u room k (with_leaf (with_split ns u i (node_bit (at ns i) c) branch) (suc u) i (node_bit k c) k) (suc (suc u))
   unfolding after
@@ -121,9 +122,9 @@ module _ (ns : List Node) (u room : ℕ) (g : Compressed ns u) (fits : u ≤ roo
         within = rw (length-set, length-set, length-set, length-set) (omega arith);
         trie = trie2;
         forks = link_forks ns1 (suc u) i s2 k iu1 ul1 (omega arith) some
-            (each ns u i (at ns i) (with_child s1 branch u) r.slot (omega arith) (λ (j : ℕ) (n : Node). j ≢ i → n.hop ≡ None → (b : Bool) → child b n ≢ 65535)
+            (each ns u i (at ns i) (with_child s1 branch (Some u)) r.slot (omega arith) (λ (j : ℕ) (n : Node). j ≢ i → n.hop ≡ None → (b : Bool) → child b n ≢ 65535)
             (λ ni. absurd (ni refl)) (λ _. g.forks i r.slot) (λ j h ni _. g.forks j h))
-            (λ z b nb q. elim (child_with b s1 branch u) [ inl p ↦ omega (arith, sym p.1 ∙ ap (child b) (sym here) ∙ q) | inr p ↦ no_third b s1 s2 p.0 nb apart ]);
+            (λ z b nb q. elim (child_with b s1 branch (Some u)) [ inl p ↦ omega (arith, sym p.1 ∙ ap (child b) (sym here) ∙ q) | inr p ↦ no_third b s1 s2 p.0 nb apart ]);
       })
       ur
       (linked_holds ns1 (suc u) i s2 k iu1 ul1 trie1 trie2 ∙ ap (λ (q : Visible Halves). altered q (key k) k.hop) (split_holds ns u i s1 branch r.slot (omega arith) g.trie trie1 ∙ put_none (holds ns u) (key branch) (holds_none ns u g.within (key branch) none)))
@@ -150,12 +151,12 @@ module _ (ns : List Node) (u room : ℕ) (g : Compressed ns u) (fits : u ≤ roo
       trie1 = split_trie ns u i s1 branch r.slot (omega arith) (omega arith) g.trie (record { left = refl; right = refl }) (omega arith)
           (record { long = l; same = λ m h. sym (r.shared.same m h); side = refl }) r.above r.below
 
-      here : at ns1 i ≡ with_child s1 branch u
-      here = after_i ns u i (at ns i) (with_child s1 branch u) r.slot (omega arith)
+      here : at ns1 i ≡ with_child s1 branch (Some u)
+      here = after_i ns u i (at ns i) (with_child s1 branch (Some u)) r.slot (omega arith)
 
       trie2 : Trie (at (with_leaf ns1 (suc u) i s2 k)) (suc (suc u))
       trie2 = linked_trie ns1 (suc u) i s2 k iu1 ul1 (omega arith) trie1 leaf short
-          (elim (child_with s2 s1 branch u) [ inl p ↦ absurd (apart (sym p.0)) | inr p ↦ ap (child s2) here ∙ p.1 ∙ leaf_child s2 branch (record { left = refl; right = refl }) ])
+          (elim (child_with s2 s1 branch (Some u)) [ inl p ↦ absurd (apart (sym p.0)) | inr p ↦ ap (child s2) here ∙ p.1 ∙ leaf_child s2 branch (record { left = refl; right = refl }) ])
           (subst (λ (n : Node). Beyond s2 n k) (sym here) (record { long = m; same = λ m h. refl; side = refl }))
 
       none : (j : ℕ) → j < u → key (at ns j) ≡ key branch → ⊥

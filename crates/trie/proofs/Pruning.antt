@@ -1,15 +1,15 @@
 -- Slots given back.
-use Rattle.std.proofs.Common.{◌≡◌, ℕ, suc, ◌-◌, ◌<◌, ◌≤◌, Bool, cond, eqb, ◌≢◌, List, length, set, None, sym, refl, ap, ◌∙◌, subst, inl, inr, not-suc-le-zero, lt_irrefl, arith, length-set, get_or-set_other, get_or-set_same}
+use Rattle.std.proofs.Common.{◌≡◌, ℕ, suc, ◌-◌, ◌<◌, ◌≤◌, Bool, cond, eqb, ◌≢◌, List, length, set, Some, None, sym, refl, ap, ◌∙◌, subst, inl, inr, not-suc-le-zero, lt_irrefl, arith, length-set, get_or-set_other, get_or-set_same}
 use Rattle.std.proofs.lemmas.Bool.{cases_lt, cases_eq, eq-eqb, ne_eqb, cond-true, cond-false}
 use Rattle.trie.specs.declared.node.Node.{Node}
-use Rattle.trie.specs.Nodes.{node_bit, child, with_child, with_hop, at, blank, key, holds, altered}
+use Rattle.trie.specs.Nodes.{node_bit, link, child, with_child, with_hop, at, blank, key, holds, altered}
 use Rattle.trie.specs.Trie.{Beyond, Trie, Leaf, Compressed}
 use Rattle.trie.specs.Search.{Found}
 use Rattle.trie.specs.Changes.{swapped, Moved, Parent, Loose, Pruned, Unlinked, Dropped}
 use Rattle.trie.proofs.Keys.{key_same, holds_some, only}
-use Rattle.trie.proofs.Grow.{leaf_child}
+use Rattle.trie.proofs.Grow.{leaf_child, sure_none}
 use Rattle.trie.proofs.Maps.{same_holds, hop_each, hop_trie, hop_holds}
-use Rattle.trie.proofs.Moves.{swapped_l, swapped_r, swapped_back, swapped_in, relink_bare, relink_hit, relink_miss, moved_nil, moved_trie, moved_in, moved_holds, moved_hop, moved_link, moved_some, moved_forks}
+use Rattle.trie.proofs.Moves.{swapped_l, swapped_r, swapped_back, swapped_in, relink_bare, relink_hit, relink_miss, relink_sure, moved_nil, moved_trie, moved_in, moved_holds, moved_hop, moved_link, moved_some, moved_forks}
 use Rattle.trie.proofs.Shrink.{unlinked, pulled}
 
 -- the one child of slot i in its place
@@ -79,6 +79,7 @@ module _ (ns ms : List Node) (u i k : ℕ) (s : Bool) (lo : Loose ns u i) (iu : 
       (moved_link ns ms u k v m lo.trie lo.within kid_k.0 vu k_0 v_0 s i iu ∙ ap (swapped k v) (sym ek) ∙ swapped_l k v)
       (λ b n. moved_link ns ms u k v m lo.trie lo.within kid_k.0 vu k_0 v_0 b i iu ∙ ap (swapped k v) (other b n) ∙ moved_nil ns ms u k v m lo.trie lo.within kid_k.0 vu k_0 v_0)
       src src_i src_o (λ j h. ap (λ (n : Node). n.prefix.len) (place j)) (λ j h. ap node_bit (place j)) (λ b j h. ap (child b) (place j))
+      (λ b j h. subst (λ (n : Node). link b n ≢ Some 65535) (sym (place j)) (m.sure b (src j) (src_in j h).0))
 
   pub pulled_up : (to : ℕ) → to ≡ swapped k (u - 1) i → Pruned ns u (set ms to (at ms (u - 1))) (u - 1)
   pulled_up to e = subst (λ (n : ℕ). Pruned ns u (set ms n (at ms (u - 1))) (u - 1)) (sym e) (record {
@@ -137,7 +138,7 @@ module _ (ns ms : List Node) (u i p : ℕ) (s : Bool) (lo : Loose ns u i) (iu : 
   nil = moved_nil ns ms u i w m lo.trie lo.within iu wu i0 w_0
 
   abbrev ms3 : List Node
-  ms3 = set ms p2 (with_child s (at ms p2) 65535)
+  ms3 = set ms p2 (with_child s (at ms p2) None)
 
   suc_w : u ≡ suc w
   suc_w = omega arith
@@ -145,26 +146,27 @@ module _ (ns ms : List Node) (u i p : ℕ) (s : Bool) (lo : Loose ns u i) (iu : 
   a2 : Trie (at ms3) w
   a2 = unlinked (at ms) (at ms3) w p2 s (subst (Trie (at ms)) suc_w a1) p2_w (lnk s p pp.slot ∙ ap (swapped i w) pp.link ∙ swapped_l i w)
       (λ b. ap (λ (x : ℕ). child b (at ms x)) (sym (swapped_l i w)) ∙ lnk b i iu ∙ ap (swapped i w) (leaf_child b (at ns i) leaf) ∙ nil)
-      (λ j h. ap (λ (n : Node). n.prefix.len) (relink_bare ms p2 s 65535 p2_l j)) (λ j h. ap node_bit (relink_bare ms p2 s 65535 p2_l j))
-      (relink_hit ms p2 s 65535 p2_l) (λ b j h z. relink_miss ms p2 s 65535 p2_l b j z)
+      (λ j h. ap (λ (n : Node). n.prefix.len) (relink_bare ms p2 s None p2_l j)) (λ j h. ap node_bit (relink_bare ms p2 s None p2_l j))
+      (relink_hit ms p2 s None p2_l) (λ b j h z. relink_miss ms p2 s None p2_l b j z)
+      (relink_sure ms p2 s None p2_l w p2_w sure_none (λ b x h. m.sure b x (omega (arith, h))))
 
-  pub unlinked_leaf : (to : ℕ) (y : Node) → to ≡ swapped i (u - 1) p → y ≡ with_child s (at ms to) 65535 → Unlinked ns u (set ms to y) to s
+  pub unlinked_leaf : (to : ℕ) (y : Node) → to ≡ swapped i (u - 1) p → y ≡ with_child s (at ms to) None → Unlinked ns u (set ms to y) to s
   unfolding key
-  unlinked_leaf to y e f = subst (λ (n : Node). Unlinked ns u (set ms to n) to s) (sym f) (subst (λ (n : ℕ). Unlinked ns u (set ms n (with_child s (at ms n) 65535)) n s) (sym e) (record {
+  unlinked_leaf to y e f = subst (λ (n : Node). Unlinked ns u (set ms to n) to s) (sym f) (subst (λ (n : ℕ). Unlinked ns u (set ms n (with_child s (at ms n) None)) n s) (sym e) (record {
     slot = p2_w;
     loose = record {
       within = rw length-set (omega (arith, in_m));
       trie = a2;
-      forks = λ j h n z b q. moved_forks ns ms u i w m lo.trie lo.within iu wu i0 w_0 i lo.forks j (omega arith) (λ x. lt_irrefl w (omega (arith, x ∙ swapped_l i w, h))) (sym (ap (λ (x : Node). x.hop) (relink_bare ms p2 s 65535 p2_l j)) ∙ z) b (sym (relink_miss ms p2 s 65535 p2_l b j (λ x. n x.0)) ∙ q);
+      forks = λ j h n z b q. moved_forks ns ms u i w m lo.trie lo.within iu wu i0 w_0 i lo.forks j (omega arith) (λ x. lt_irrefl w (omega (arith, x ∙ swapped_l i w, h))) (sym (ap (λ (x : Node). x.hop) (relink_bare ms p2 s None p2_l j)) ∙ z) b (sym (relink_miss ms p2 s None p2_l b j (λ x. n x.0)) ∙ q);
     };
     map = same_holds ms ms3 u w in_m (rw length-set (omega (arith, in_m))) a1 a2
-        (λ j h z. (j, (let n : j ≢ w = λ q. z (ap (λ (x : ℕ). (at ms x).hop) (q ∙ sym (swapped_l i w)) ∙ moved_hop ns ms u i w m lo.trie lo.within iu wu i0 w_0 i iu ∙ none) in omega arith), ap key (relink_bare ms p2 s 65535 p2_l j)))
-        (λ j h. (j, omega arith, sym (ap key (relink_bare ms p2 s 65535 p2_l j)), sym (ap (λ (x : Node). x.hop) (relink_bare ms p2 s 65535 p2_l j))))
+        (λ j h z. (j, (let n : j ≢ w = λ q. z (ap (λ (x : ℕ). (at ms x).hop) (q ∙ sym (swapped_l i w)) ∙ moved_hop ns ms u i w m lo.trie lo.within iu wu i0 w_0 i iu ∙ none) in omega arith), ap key (relink_bare ms p2 s None p2_l j)))
+        (λ j h. (j, omega arith, sym (ap key (relink_bare ms p2 s None p2_l j)), sym (ap (λ (x : Node). x.hop) (relink_bare ms p2 s None p2_l j))))
         ∙ moved_holds ns ms u i w m lo.trie lo.within iu wu i0 w_0;
-    gone = relink_hit ms p2 s 65535 p2_l;
+    gone = relink_hit ms p2 s None p2_l;
     other = λ z b n q. moved_some ns ms u i w m lo.trie lo.within iu wu i0 w_0 (child b (at ns p))
-        (lo.forks p pp.slot p_i (sym (ap (λ (x : Node). x.hop) (relink_bare ms p2 s 65535 p2_l p2) ∙ moved_hop ns ms u i w m lo.trie lo.within iu wu i0 w_0 p pp.slot) ∙ z) b)
-        (sym (relink_miss ms p2 s 65535 p2_l b p2 (λ x. n x.1) ∙ lnk b p pp.slot) ∙ q);
+        (lo.forks p pp.slot p_i (sym (ap (λ (x : Node). x.hop) (relink_bare ms p2 s None p2_l p2) ∙ moved_hop ns ms u i w m lo.trie lo.within iu wu i0 w_0 p pp.slot) ∙ z) b)
+        (sym (relink_miss ms p2 s None p2_l b p2 (λ x. n x.1) ∙ lnk b p pp.slot) ∙ q);
   }))
 
 -- the last node of all
@@ -176,7 +178,7 @@ emptied ns u lo h none leaf = record {
 }
   where
     bare_trie : Trie (at ns) 0
-    bare_trie = record { few = omega arith; short = λ i l. absurd (not-suc-le-zero l); top = λ i l. absurd (not-suc-le-zero l); kid = λ s i l. absurd (not-suc-le-zero l); full = λ s i j l. absurd (not-suc-le-zero l); apart = λ i j l. absurd (not-suc-le-zero l) }
+    bare_trie = record { few = omega arith; short = λ i l. absurd (not-suc-le-zero l); top = λ i l. absurd (not-suc-le-zero l); sure = λ s i l. absurd (not-suc-le-zero l); kid = λ s i l. absurd (not-suc-le-zero l); full = λ s i j l. absurd (not-suc-le-zero l); apart = λ i j l. absurd (not-suc-le-zero l) }
 
     only_0 : (j : ℕ) → j < u → j ≡ 0
     only_0 j l = elim (cases_lt (at ns 0).prefix.len (at ns j).prefix.len) [
@@ -210,6 +212,6 @@ dropped ns u g k i iu e some ms v p = record {
 pub none_good : (ns : List Node) → Compressed ns 0
 none_good ns = record {
   within = omega arith;
-  trie = record { few = omega arith; short = λ i l. absurd (not-suc-le-zero l); top = λ i l. absurd (not-suc-le-zero l); kid = λ s i l. absurd (not-suc-le-zero l); full = λ s i j l. absurd (not-suc-le-zero l); apart = λ i j l. absurd (not-suc-le-zero l) };
+  trie = record { few = omega arith; short = λ i l. absurd (not-suc-le-zero l); top = λ i l. absurd (not-suc-le-zero l); sure = λ s i l. absurd (not-suc-le-zero l); kid = λ s i l. absurd (not-suc-le-zero l); full = λ s i j l. absurd (not-suc-le-zero l); apart = λ i j l. absurd (not-suc-le-zero l) };
   forks = λ i l. absurd (not-suc-le-zero l);
 }

@@ -2,8 +2,9 @@
 use Rattle.std.proofs.Common.{◌≡◌, ℕ, ◌<◌, ◌≤◌, ◌≢◌, ◌⊎◌, List, Some, None, Option, sym, ap, ◌∙◌, subst, inl, inr, lt_trans, lt_irrefl, le_refl, arith}
 use Rattle.std.proofs.lemmas.Bool.{cases_lt}
 use Rattle.trie.specs.declared.node.Node.{Node}
-use Rattle.trie.specs.Nodes.{at, node_bit}
+use Rattle.trie.specs.Nodes.{at, node_bit, slot_of, child}
 use Rattle.trie.specs.Trie.{Under, Beyond, Compressed}
+use Rattle.trie.proofs.Nodes.{linked}
 use Rattle.trie.specs.Search.{UpTo, Stepped, Reaches, First, Best, Scan}
 
 module _ (ns : List Node) (u : ℕ) (g : Compressed ns u) (key : Node) where
@@ -14,18 +15,18 @@ module _ (ns : List Node) (u : ℕ) (g : Compressed ns u) (key : Node) where
   -- where there is no step, nothing that covers the key is strictly beneath
   step_none : (i : ℕ) → i < u → Stepped (at ns) key i None → (j : ℕ) → j < u → Under (at ns j) key → Under (at ns i) (at ns j) → (at ns i).prefix.len < (at ns j).prefix.len → ⊥
   step_none i hi (inl f) j h v p l = lt_irrefl key.prefix.len (omega (arith, f, l, v.long))
-  step_none i hi (inr e) j h v p l = omega (arith, (g.trie.full (node_bit key (at ns i).prefix.len) i j hi h (beyond i j v p l)).0, e, g.trie.few)
+  step_none i hi (inr e) j h v p l = omega (arith, (g.trie.full (node_bit key (at ns i).prefix.len) i j hi h (beyond i j v p l)).0, ap slot_of e, g.trie.few)
 
   -- a step down
   module _ (i k : ℕ) (hi : i < u) (d : Stepped (at ns) key i (Some k)) where
     there : (k < u) × Beyond (node_bit key (at ns i).prefix.len) (at ns i) (at ns k)
-    there = subst (λ (n : ℕ). (n < u) × Beyond (node_bit key (at ns i).prefix.len) (at ns i) (at ns n)) (sym d.0) (g.trie.kid (node_bit key (at ns i).prefix.len) i hi (λ z. d.1 (d.0 ∙ z)))
+    there = subst (λ (n : ℕ). (n < u) × Beyond (node_bit key (at ns i).prefix.len) (at ns i) (at ns n)) (ap slot_of d) (g.trie.kid (node_bit key (at ns i).prefix.len) i hi (linked (at ns) u g.trie _ i k hi d))
 
     pub longer : (at ns i).prefix.len < (at ns k).prefix.len
     longer = there.1.long
 
     step_some : (j : ℕ) → j < u → Under (at ns j) key → Under (at ns i) (at ns j) → (at ns i).prefix.len < (at ns j).prefix.len → Under (at ns k) (at ns j)
-    step_some j h v p l = subst (λ (n : ℕ). Under (at ns n) (at ns j)) (sym d.0) (g.trie.full (node_bit key (at ns i).prefix.len) i j hi h (beyond i j v p l)).1
+    step_some j h v p l = subst (λ (n : ℕ). Under (at ns n) (at ns j)) (ap slot_of d) (g.trie.full (node_bit key (at ns i).prefix.len) i j hi h (beyond i j v p l)).1
 
   -- a route beneath a branch is strictly beneath it
   strictly : (i j : ℕ) → i < u → j < u → (at ns i).hop ≡ None → (at ns j).hop ≢ None → Under (at ns i) (at ns j) → (at ns i).prefix.len < (at ns j).prefix.len

@@ -1,8 +1,8 @@
 -- A trie with its slots exchanged, or with its last slot given back.
-use Rattle.std.proofs.Common.{◌≡◌, ℕ, suc, ◌<◌, ◌≤◌, Bool, true, false, ◌≢◌, ◌⊎◌, sym, refl, ap, ◌∙◌, subst, inl, inr, le_refl, lt_irrefl, arith}
+use Rattle.std.proofs.Common.{◌≡◌, ℕ, suc, ◌<◌, ◌≤◌, Bool, true, false, ◌≢◌, ◌⊎◌, Some, sym, refl, ap, ◌∙◌, subst, inl, inr, le_refl, lt_irrefl, arith}
 use Rattle.std.proofs.lemmas.Bool.{cases_lt, cases_eq, cases_order, true≢false, false≢true}
 use Rattle.trie.specs.declared.node.Node.{Node}
-use Rattle.trie.specs.Nodes.{node_bit, child}
+use Rattle.trie.specs.Nodes.{node_bit, link, child}
 use Rattle.trie.specs.Trie.{Agree, Begins, Leads, Under, Beyond, Trie}
 use Rattle.trie.proofs.Nodes.{beyond_under, beyond_further}
 
@@ -29,7 +29,7 @@ one_parent f u t a b i j c hi hj hc ei ej = go (cases_order (f i).prefix.len (f 
 
 -- the same trie in other slots: slot j has what slot τ j had, and the links follow
 module _ (f g : ℕ → Node) (u : ℕ) (t : Trie f u) (τ : ℕ → ℕ) (back : (j : ℕ) → τ (τ j) ≡ j) (in_use : (j : ℕ) → j < u → τ j < u) (root : τ 0 ≡ 0) (nil : τ 65535 ≡ 65535)
-    (len : (j : ℕ) → j < u → (g j).prefix.len ≡ (f (τ j)).prefix.len) (wrd : (j : ℕ) → j < u → node_bit (g j) ≡ node_bit (f (τ j))) (kids : (b : Bool) (j : ℕ) → j < u → child b (g j) ≡ τ (child b (f (τ j)))) where
+    (len : (j : ℕ) → j < u → (g j).prefix.len ≡ (f (τ j)).prefix.len) (wrd : (j : ℕ) → j < u → node_bit (g j) ≡ node_bit (f (τ j))) (kids : (b : Bool) (j : ℕ) → j < u → child b (g j) ≡ τ (child b (f (τ j)))) (sure : (b : Bool) (j : ℕ) → j < u → link b (g j) ≢ Some 65535) where
   -- what holds of f's slot holds of g's
   ren : (R : ℕ → (ℕ → Bool) → Type 0) (j : ℕ) → j < u → R (f (τ j)).prefix.len (node_bit (f (τ j))) → R (g j).prefix.len (node_bit (g j))
   ren R j h r = subst (λ (n : ℕ). R n (node_bit (g j))) (sym (len j h)) (subst (R (f (τ j)).prefix.len) (sym (wrd j h)) r)
@@ -45,6 +45,7 @@ module _ (f g : ℕ → Node) (u : ℕ) (t : Trie f u) (τ : ℕ → ℕ) (back 
     few = t.few;
     short = λ i h. subst (λ (n : ℕ). n ≤ 128) (sym (len i h)) (t.short (τ i) (in_use i h));
     top = λ i h. ren (λ m w. Begins (g 0).prefix.len (node_bit (g 0)) m w) i h (ren (λ m w. Begins m w (f (τ i)).prefix.len (node_bit (f (τ i)))) 0 (omega arith) (subst (λ (n : ℕ). Under (f n) (f (τ i))) (sym root) (t.top (τ i) (in_use i h))));
+    sure = sure;
     kid = λ b i h ne. let c : ℕ = child b (f (τ i)) in
         let k : (c < u) × Beyond b (f (τ i)) (f c) = t.kid b (τ i) (in_use i h) (λ z. ne (kids b i h ∙ ap τ z ∙ nil)) in
         subst (λ (n : ℕ). (n < u) × Beyond b (g i) (g n)) (sym (kids b i h))
@@ -57,9 +58,9 @@ module _ (f g : ℕ → Node) (u : ℕ) (t : Trie f u) (τ : ℕ → ℕ) (back 
   }
 
 -- the leaf in the last slot v taken from under slot p
-module _ (f g : ℕ → Node) (v p : ℕ) (s : Bool) (t : Trie f (suc v)) (hp : p < v) (link : child s (f p) ≡ v) (leaf : (b : Bool) → child b (f v) ≡ 65535)
+module _ (f g : ℕ → Node) (v p : ℕ) (s : Bool) (t : Trie f (suc v)) (hp : p < v) (leads : child s (f p) ≡ v) (leaf : (b : Bool) → child b (f v) ≡ 65535)
     (len : (j : ℕ) → j < v → (g j).prefix.len ≡ (f j).prefix.len) (wrd : (j : ℕ) → j < v → node_bit (g j) ≡ node_bit (f j))
-    (cut : child s (g p) ≡ 65535) (kids : (b : Bool) (j : ℕ) → j < v → ((j ≡ p) × (b ≡ s) → ⊥) → child b (g j) ≡ child b (f j)) where
+    (cut : child s (g p) ≡ 65535) (kids : (b : Bool) (j : ℕ) → j < v → ((j ≡ p) × (b ≡ s) → ⊥) → child b (g j) ≡ child b (f j)) (sure : (b : Bool) (j : ℕ) → j < v → link b (g j) ≢ Some 65535) where
   u_ren : (R : ℕ → (ℕ → Bool) → Type 0) (j : ℕ) → j < v → R (f j).prefix.len (node_bit (f j)) → R (g j).prefix.len (node_bit (g j))
   u_ren R j h r = subst (λ (n : ℕ). R n (node_bit (g j))) (sym (len j h)) (subst (R (f j).prefix.len) (sym (wrd j h)) r)
 
@@ -87,10 +88,11 @@ module _ (f g : ℕ → Node) (v p : ℕ) (s : Bool) (t : Trie f (suc v)) (hp : 
     few = omega (arith, t.few);
     short = λ i h. subst (λ (n : ℕ). n ≤ 128) (sym (len i h)) (t.short i (omega arith));
     top = λ i h. u_ren (λ m w. Begins m w (g i).prefix.len (node_bit (g i))) 0 (omega arith) (u_ren (λ m w. Begins (f 0).prefix.len (node_bit (f 0)) m w) i h (t.top i (omega arith)));
+    sure = sure;
     kid = λ b i h ne. elim (cases_link b i) [
       | inl z ↦ absurd (ne (ap (λ (c : Bool). child c (g i)) z.1 ∙ ap (λ (n : ℕ). child s (g n)) z.0 ∙ cut))
       | inr z ↦ (let k : (child b (f i) < suc v) × Beyond b (f i) (f (child b (f i))) = t.kid b i (omega arith) (λ y. ne (kids b i h z ∙ y)) in
-          let n : child b (f i) ≢ v = λ y. z (one_parent f (suc v) t b s i p v (omega arith) (omega arith) (le_refl _) y link) in
+          let n : child b (f i) ≢ v = λ y. z (one_parent f (suc v) t b s i p v (omega arith) (omega arith) (le_refl _) y leads) in
           let l : child b (f i) < v = omega (arith, k.0) in
           subst (λ (c : ℕ). (c < v) × Beyond b (g i) (g c)) (sym (kids b i h z))
           (l, u_ren (λ m w. Leads b m w (g (child b (f i))).prefix.len (node_bit (g (child b (f i))))) i h (u_ren (λ m w. Leads b (f i).prefix.len (node_bit (f i)) m w) (child b (f i)) l k.1)))
@@ -99,16 +101,16 @@ module _ (f g : ℕ → Node) (v p : ℕ) (s : Bool) (t : Trie f (suc v)) (hp : 
         let k : (child b (f i) < suc v) × Under (f (child b (f i))) (f j) = t.full b i j (omega arith) (omega arith) (u_unren (λ m w. Leads b (f i).prefix.len (node_bit (f i)) m w) j hj (u_unren (λ m w. Leads b m w (g j).prefix.len (node_bit (g j))) i hi r)) in
         let n : child b (f i) ≢ v = λ y. bare j hj (subst (λ (c : ℕ). Under (f c) (f j)) y k.1) in
         let l : child b (f i) < v = omega (arith, k.0) in
-        let z : (i ≡ p) × (b ≡ s) → ⊥ = λ y. n (ap (λ (c : Bool). child c (f i)) y.1 ∙ ap (λ (m : ℕ). child s (f m)) y.0 ∙ link) in
+        let z : (i ≡ p) × (b ≡ s) → ⊥ = λ y. n (ap (λ (c : Bool). child c (f i)) y.1 ∙ ap (λ (m : ℕ). child s (f m)) y.0 ∙ leads) in
         subst (λ (c : ℕ). (c < v) × Under (g c) (g j)) (sym (kids b i hi z))
         (l, u_ren (λ m w. Begins m w (g j).prefix.len (node_bit (g j))) (child b (f i)) l (u_ren (λ m w. Begins (f (child b (f i))).prefix.len (node_bit (f (child b (f i)))) m w) j hj k.1));
     apart = λ i j hi hj e a. t.apart i j (omega arith) (omega arith) (sym (len i hi) ∙ e ∙ len j hj) (u_unren (λ m w. Agree (f i).prefix.len (node_bit (f i)) w) j hj (u_unren (λ m w. Agree m w (node_bit (g j))) i hi a));
   }
 
 -- slot v, the last, put into the slot i of its parent, which has no other child: slot j has now what slot src j had
-module _ (f g : ℕ → Node) (v i : ℕ) (s : Bool) (t : Trie f (suc v)) (hi : i < v) (link : child s (f i) ≡ v) (single : (b : Bool) → b ≢ s → child b (f i) ≡ 65535)
+module _ (f g : ℕ → Node) (v i : ℕ) (s : Bool) (t : Trie f (suc v)) (hi : i < v) (leads : child s (f i) ≡ v) (single : (b : Bool) → b ≢ s → child b (f i) ≡ 65535)
     (src : ℕ → ℕ) (src_i : src i ≡ v) (src_o : (j : ℕ) → j ≢ i → src j ≡ j)
-    (len : (j : ℕ) → j < v → (g j).prefix.len ≡ (f (src j)).prefix.len) (wrd : (j : ℕ) → j < v → node_bit (g j) ≡ node_bit (f (src j))) (kids : (b : Bool) (j : ℕ) → j < v → child b (g j) ≡ child b (f (src j))) where
+    (len : (j : ℕ) → j < v → (g j).prefix.len ≡ (f (src j)).prefix.len) (wrd : (j : ℕ) → j < v → node_bit (g j) ≡ node_bit (f (src j))) (kids : (b : Bool) (j : ℕ) → j < v → child b (g j) ≡ child b (f (src j))) (sure : (b : Bool) (j : ℕ) → j < v → link b (g j) ≢ Some 65535) where
   p_ren : (R : ℕ → (ℕ → Bool) → Type 0) (j : ℕ) → j < v → R (f (src j)).prefix.len (node_bit (f (src j))) → R (g j).prefix.len (node_bit (g j))
   p_ren R j h r = subst (λ (n : ℕ). R n (node_bit (g j))) (sym (len j h)) (subst (R (f (src j)).prefix.len) (sym (wrd j h)) r)
 
@@ -128,7 +130,7 @@ module _ (f g : ℕ → Node) (v i : ℕ) (s : Bool) (t : Trie f (suc v)) (hi : 
   ]
 
   there : Beyond s (f i) (f v)
-  there = subst (λ (n : ℕ). Beyond s (f i) (f n)) link (t.kid s i (omega arith) (λ z. let k : v ≡ 65535 = sym link ∙ z in omega (arith, t.few))).1
+  there = subst (λ (n : ℕ). Beyond s (f i) (f n)) leads (t.kid s i (omega arith) (λ z. let k : v ≡ 65535 = sym leads ∙ z in omega (arith, t.few))).1
 
   -- what is beneath slot i, other than itself, is beneath slot v
   deeper : (m : ℕ) → m < suc v → m ≢ i → Under (f i) (f m) → Under (f v) (f m)
@@ -141,11 +143,11 @@ module _ (f g : ℕ → Node) (v i : ℕ) (s : Bool) (t : Trie f (suc v)) (hi : 
       same_side false false = inl refl
 
       go : (f i).prefix.len < (f m).prefix.len → (node_bit (f m) (f i).prefix.len ≡ s) ⊎ (node_bit (f m) (f i).prefix.len ≢ s) → Under (f v) (f m)
-      go l (inl e) = subst (λ (c : ℕ). Under (f c) (f m)) link (t.full s i m (omega arith) h (record { long = l; same = r.same; side = e })).1
+      go l (inl e) = subst (λ (c : ℕ). Under (f c) (f m)) leads (t.full s i m (omega arith) h (record { long = l; same = r.same; side = e })).1
       go l (inr ne) = absurd (lt_irrefl 65535 (omega (arith, (t.full (node_bit (f m) (f i).prefix.len) i m (omega arith) h (record { long = l; same = r.same; side = refl })).0, single (node_bit (f m) (f i).prefix.len) ne, t.few)))
 
   not_v : (b : Bool) (x : ℕ) → x < suc v → x ≢ i → child b (f x) ≢ v
-  not_v b x h n e = n (one_parent f (suc v) t b s x i v h (omega arith) (le_refl _) e link).0
+  not_v b x h n e = n (one_parent f (suc v) t b s x i v h (omega arith) (le_refl _) e leads).0
 
   -- a slot that is linked, as it is now
   put_at : (R : ℕ → (ℕ → Bool) → Type 0) (c : ℕ) → c < v → (c ≡ i → R (f v).prefix.len (node_bit (f v))) → (c ≢ i → R (f c).prefix.len (node_bit (f c))) → R (g c).prefix.len (node_bit (g c))
@@ -159,6 +161,7 @@ module _ (f g : ℕ → Node) (v i : ℕ) (s : Bool) (t : Trie f (suc v)) (hi : 
     top = λ j h. put_at (λ m w. Begins m w (g j).prefix.len (node_bit (g j))) 0 (omega arith)
         (λ e. p_ren (λ m w. Begins (f v).prefix.len (node_bit (f v)) m w) j h (deeper (src j) (src_in j h).0 (src_in j h).1 (subst (λ (n : ℕ). Under (f n) (f (src j))) e (t.top (src j) (src_in j h).0))))
         (λ n. p_ren (λ m w. Begins (f 0).prefix.len (node_bit (f 0)) m w) j h (t.top (src j) (src_in j h).0));
+    sure = sure;
     kid = λ b j h ne.
         let k : (child b (f (src j)) < suc v) × Beyond b (f (src j)) (f (child b (f (src j)))) = t.kid b (src j) (src_in j h).0 (λ z. ne (kids b j h ∙ z)) in
         let n : child b (f (src j)) ≢ v = not_v b (src j) (src_in j h).0 (src_in j h).1 in

@@ -5,16 +5,16 @@ use Rattle.bits.specs.declared.halves.Halves.{Halves}
 use Rattle.model.specs.Maps.{held, put, removed}
 use Rattle.model.specs.Room.{fits_nodes}
 use Rattle.trie.specs.declared.node.Node.{Node}
-use Rattle.trie.specs.Nodes.{at, key, child, with_child, holds, altered, entries}
+use Rattle.trie.specs.Nodes.{at, key, link, child, with_child, holds, altered, entries}
 use Rattle.trie.specs.Trie.{Trie, Compressed}
 
 -- the node x in slot u, linked from slot i on the side s
 abbrev pub with_leaf : List Node → ℕ → ℕ → Bool → Node → List Node
-with_leaf ns u i s x = slice_set (slice_set ns u x) i (with_child s (at ns i) u)
+with_leaf ns u i s x = slice_set (slice_set ns u x) i (with_child s (at ns i) (Some u))
 
 -- the node y in slot i, above what slot i held, which is now in slot u
 abbrev pub with_split : List Node → ℕ → ℕ → Bool → Node → List Node
-with_split ns u i s y = slice_set (slice_set ns u (at ns i)) i (with_child s y u)
+with_split ns u i s y = slice_set (slice_set ns u (at ns i)) i (with_child s y (Some u))
 
 -- where slot j is once slots h and l have changed places
 abbrev pub swapped : ℕ → ℕ → ℕ → ℕ
@@ -22,13 +22,14 @@ swapped h l j = cond (j == h) l (cond (j == l) h j)
 
 -- a node without its links
 abbrev pub bare : Node → Node
-bare n = record { prefix = n.prefix; hop = n.hop; left = 0; right = 0 }
+bare n = record { prefix = n.prefix; hop = n.hop; left = None; right = None }
 
 -- the nodes of slots h and l have changed places, and the links follow
 pub record Moved (ns ms : List Node) (u h l : ℕ) : Type 0 where
   pub long : length ms ≡ length ns
   pub nodes : (j : ℕ) → j < u → bare (at ms j) ≡ bare (at ns (swapped h l j))
   pub links : (s : Bool) (j : ℕ) → j < u → child s (at ms j) ≡ swapped h l (child s (at ns (swapped h l j)))
+  pub sure : (s : Bool) (j : ℕ) → j < u → link s (at ms j) ≢ Some 65535
 
 -- slot p links slot c on the side s
 pub record Parent (ns : List Node) (u c p : ℕ) (s : Bool) : Type 0 where

@@ -10,7 +10,7 @@ use Rattle.trie.specs.declared.node.Node.{Node}
 
 -- a node as an array is made of
 abbrev pub blank : Node
-blank = record { prefix = record { bits = record { hi = 0; lo = 0 }; len = 0 }; hop = None; left = 0; right = 0 }
+blank = record { prefix = record { bits = record { hi = 0; lo = 0 }; len = 0 }; hop = None; left = None; right = None }
 
 -- the node in slot i
 abbrev pub at : List Node → ℕ → Node
@@ -24,12 +24,21 @@ node_bit n k = slice_index_or (word n.prefix.bits) k false
 unfoldable pub key : Node → Bits
 key n = front n.prefix.len n.prefix.bits
 
+-- the link to the node below whose next bit is s
+abbrev pub link : Bool → Node → Option ℕ
+link s n = cond s n.right n.left
+
+-- the slot of a link; 65,535 is no link
+abbrev pub slot_of : Option ℕ → ℕ
+slot_of None = 65535
+slot_of (Some i) = i
+
 -- the slot of the node below whose next bit is s; 65,535 is no link
 abbrev pub child : Bool → Node → ℕ
-child s n = cond s n.right n.left
+child s n = slot_of (link s n)
 
 -- the node with another link on side s
-abbrev pub with_child : Bool → Node → ℕ → Node
+abbrev pub with_child : Bool → Node → Option ℕ → Node
 with_child s n c = record { prefix = n.prefix; hop = n.hop; left = cond s n.left c; right = cond s c n.right }
 
 -- the node with another hop
@@ -38,7 +47,7 @@ with_hop n h = record { prefix = n.prefix; hop = h; left = n.left; right = n.rig
 
 -- a node of no links for a prefix
 abbrev pub unlinked : Front → Option Halves → Node
-unlinked p h = record { prefix = p; hop = h; left = 65535; right = 65535 }
+unlinked p h = record { prefix = p; hop = h; left = None; right = None }
 
 -- the map with this hop at p, if there is one
 abbrev pub with_route : Option Halves → Bits → Map Halves → Map Halves

@@ -2,7 +2,7 @@
 use Rattle.std.specs.Prelude.{◌≡◌, ℕ, ◌<◌, ◌≤◌, ◌≢◌, ◌⊎◌, List, Some, None, Option}
 use Rattle.bits.specs.Bits.{Bits}
 use Rattle.trie.specs.declared.node.Node.{Node}
-use Rattle.trie.specs.Nodes.{at, node_bit, key, child, holds}
+use Rattle.trie.specs.Nodes.{at, node_bit, key, link, child, holds}
 use Rattle.trie.specs.Trie.{Agree, Under}
 
 -- c first bits are common to the prefixes of a and b, and no more
@@ -52,8 +52,8 @@ pub record Best (f : ℕ → Node) (u : ℕ) (k : Node) (r : Option ℕ) : Type 
 
 -- the slot beneath slot i that is next on the way of k's prefix, or none where that goes no further or there is no node
 abbrev pub Stepped : (ℕ → Node) → Node → ℕ → Option ℕ → Type 0
-Stepped f k i None = (k.prefix.len ≤ (f i).prefix.len) ⊎ (child (node_bit k (f i).prefix.len) (f i) ≡ 65535)
-Stepped f k i (Some j) = (j ≡ child (node_bit k (f i).prefix.len) (f i)) × (j ≢ 65535)
+Stepped f k i None = (k.prefix.len ≤ (f i).prefix.len) ⊎ (link (node_bit k (f i).prefix.len) (f i) ≡ None)
+Stepped f k i (Some j) = link (node_bit k (f i).prefix.len) (f i) ≡ Some j
 
 -- each route that covers the prefix of k and is at or beneath slot a is at or beneath slot i
 pub record Reaches (f : ℕ → Node) (u : ℕ) (k : Node) (a i : ℕ) : Type 0 where

@@ -1,7 +1,7 @@
 -- A path-compressed binary trie in the first slots of a pool of nodes, as facts on each slot and each two slots.
-use Rattle.std.specs.Prelude.{◌≡◌, ℕ, ◌<◌, ◌≤◌, Bool, ◌≢◌, List, length, None}
+use Rattle.std.specs.Prelude.{◌≡◌, ℕ, ◌<◌, ◌≤◌, Bool, ◌≢◌, List, length, Some, None}
 use Rattle.trie.specs.declared.node.Node.{Node}
-use Rattle.trie.specs.Nodes.{at, node_bit, child}
+use Rattle.trie.specs.Nodes.{at, node_bit, link, child}
 
 -- the first n bits are the same
 abbrev pub Agree : ℕ → (ℕ → Bool) → (ℕ → Bool) → Type 0
@@ -26,11 +26,12 @@ Under a b = Begins a.prefix.len (node_bit a) b.prefix.len (node_bit b)
 abbrev pub Beyond : Bool → Node → Node → Type 0
 Beyond s a b = Leads s a.prefix.len (node_bit a) b.prefix.len (node_bit b)
 
--- the first u slots are a trie with its root in slot 0: each link leads to the next node beneath on its side, and no prefix stands twice
+-- the first u slots are a trie with its root in slot 0: each link leads to the next node beneath on its side, none is to a slot 65,535, and no prefix stands twice
 pub record Trie (f : ℕ → Node) (u : ℕ) : Type 0 where
   pub few : u ≤ 65535
   pub short : (i : ℕ) → i < u → (f i).prefix.len ≤ 128
   pub top : (i : ℕ) → i < u → Under (f 0) (f i)
+  pub sure : (s : Bool) (i : ℕ) → i < u → link s (f i) ≢ Some 65535
   pub kid : (s : Bool) (i : ℕ) → i < u → child s (f i) ≢ 65535 → (child s (f i) < u) × Beyond s (f i) (f (child s (f i)))
   pub full : (s : Bool) (i j : ℕ) → i < u → j < u → Beyond s (f i) (f j) → (child s (f i) < u) × Under (f (child s (f i))) (f j)
   pub apart : (i j : ℕ) → i < u → j < u → (f i).prefix.len ≡ (f j).prefix.len → Agree (f i).prefix.len (node_bit (f i)) (node_bit (f j)) → i ≡ j
@@ -43,5 +44,5 @@ pub record Compressed (ns : List Node) (u : ℕ) : Type 0 where
 
 -- a node with nothing beneath it
 pub record Leaf (n : Node) : Type 0 where
-  pub left : n.left ≡ 65535
-  pub right : n.right ≡ 65535
+  pub left : n.left ≡ None
+  pub right : n.right ≡ None

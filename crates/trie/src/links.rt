@@ -1,28 +1,28 @@
 ghost use Rattle.std.specs.Prelude.{◌≡◌};
-ghost use Rattle.trie.specs.Nodes.{child as next, with_child, unlinked as fresh};
+ghost use Rattle.trie.specs.Nodes.{link, with_child, unlinked as fresh};
 
-use crate::node::{NIL, Node};
+use crate::node::Node;
 use bits::front::Front;
 use bits::halves::Halves;
 
-// The slot of the node beneath on the side of that bit, or NIL.
-pub fn child(node: &Node, side: bool) -> u16
-    ensures { result ≡ next side node.now }
+// The link to the node beneath on the side of that bit, if there is one.
+pub fn child(node: &Node, side: bool) -> Option<u16>
+    ensures { result ≡ link side node.now }
 {
     if side { node.right } else { node.left }
 }
 
 // The node with another link on that side.
-pub fn linked(node: Node, side: bool, slot: u16) -> Node
-    ensures { result ≡ with_child side node slot }
+pub fn linked(node: Node, side: bool, link: Option<u16>) -> Node
+    ensures { result ≡ with_child side node link }
 {
     if side {
         Node {
-            right: slot,
+            right: link,
             ..node
         }
     } else {
-        Node { left: slot, ..node }
+        Node { left: link, ..node }
     }
 }
 
@@ -33,7 +33,7 @@ pub fn unlinked(prefix: Front, hop: Option<Halves>) -> Node
     Node {
         prefix,
         hop,
-        left: NIL,
-        right: NIL,
+        left: None,
+        right: None,
     }
 }

@@ -4,17 +4,14 @@ ghost use Rattle.trie.specs.Nodes.{blank as unused};
 use bits::front::Front;
 use bits::halves::Halves;
 
-// No link.
-pub const NIL: u16 = 65535;
-
 // A node: its prefix, the next hop of its route (a branch has none), and the slots of the nodes below it, the
 // left one for the next bit 0 and the right one for the next bit 1.
 #[derive(Clone, Copy, PartialEq, Eq, Debug)]
 pub struct Node {
     pub prefix: Front,
     pub hop: Option<Halves>,
-    pub left: u16,
-    pub right: u16,
+    pub left: Option<u16>,
+    pub right: Option<u16>,
 }
 
 impl Node {
@@ -26,8 +23,8 @@ impl Node {
         Node {
             prefix: Front { bits: zero, len: 0 },
             hop: None,
-            left: 0,
-            right: 0,
+            left: None,
+            right: None,
         }
     }
 }

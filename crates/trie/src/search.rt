@@ -6,7 +6,7 @@ ghost use Rattle.trie.specs.Trie.{Trie, Compressed};
 ghost use Rattle.trie.specs.Search.{Found, Located, Stepped, First, Best};
 
 use crate::links::child;
-use crate::node::{NIL, Node};
+use crate::node::Node;
 use bits::front::Front;
 use bits::halves::Halves;
 
@@ -38,11 +38,10 @@ pub fn seek(ns: &[Node], key: &Node) -> End
         if both < node.prefix.len || both >= key.prefix.len {
             return End { slot, shared: both };
         }
-        let next = child(node, key.prefix.bits.bit_at(both));
-        if next == NIL {
+        let Some(next) = child(node, key.prefix.bits.bit_at(both)) else {
             return End { slot, shared: both };
-        }
-        slot = next as usize;
+        };
+        slot = usize::from(next);
     }
 }
 
@@ -93,12 +92,7 @@ fn below(ns: &[Node], slot: usize, sought: Front) -> Option<usize>
     if len >= sought.len {
         return None;
     }
-    let next = child(node, sought.bits.bit_at(len));
-    if next == NIL {
-        None
-    } else {
-        Some(next as usize)
-    }
+    child(node, sought.bits.bit_at(len)).map(usize::from)
 }
 
 // The slot of the first route on the way of the bits sought from that slot on, if there is one: branches are passed unseen.

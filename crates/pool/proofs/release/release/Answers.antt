@@ -1,12 +1,9 @@
-use Rattle.std.proofs.Common.{◌≡◌, ℕ, None, subst, arith}
-use Rattle.trie.specs.Nodes.{at}
-use Rattle.trie.specs.Trie.{Leaf}
-use Rattle.trie.specs.Changes.{Loose}
-use Rattle.trie.proofs.Pruning.{emptied}
+use Rattle.std.proofs.Common.{true, false}
+use Rattle.trie.proofs.Nodes.{linked}
 use Rattle.pool.proofs.release.release.Goals as goal
 
-pub returns-then-slot-eq0 : goal.returns-then-slot-eq0
-returns-then-slot-eq0 c =
-    emptied c.args.ns.now c.args.used (subst (Loose c.args.ns.now c.args.used) c.if-slot-eq0.true c.requires.loose) (omega (arith, c.requires.slot))
-    (subst (λ (n : ℕ). (at c.args.ns.now n).hop ≡ None) c.if-slot-eq0.true c.requires.none)
-    (subst (λ (n : ℕ). Leaf (at c.args.ns.now n)) c.if-slot-eq0.true (record { left = c.if-node.false; right = c.if-node-3.false }))
+pub pull-requires-clause-one : goal.pull-requires-clause-one
+pull-requires-clause-one c = linked _ _ c.requires.loose.trie false c.args.slot _ c.requires.slot c.in-Some-None.is-0
+
+pub pull-requires-in-None-Some-clause-one : goal.pull-requires-in-None-Some-clause-one
+pull-requires-in-None-Some-clause-one c = linked _ _ c.requires.loose.trie true c.args.slot _ c.requires.slot c.in-None-Some.is-1
