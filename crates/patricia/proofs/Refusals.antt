@@ -1,5 +1,5 @@
 -- What an optional value made a result of its own was. Assumes nothing.
-use Rattle.std.proofs.Common.{◌≡◌, Some, None, Option, Ok, Err, Result, refl, ap, sym, arith}
+use Rattle.std.proofs.Common.{◌≡◌, Some, None, Option, Ok, Err, arith}
 use Rattle.std.specs.Option.{ok_or}
 
 module _ {X E : Type 0} (o : Option X) (d : E) where

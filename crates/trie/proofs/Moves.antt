@@ -129,13 +129,6 @@ module _ (ns : List Node) (u h l q p : ℕ) (s r : Bool) (ul : u ≤ length ns) 
       let f2 : set (set ns q y1) p y2 ≡ n2 = ap (λ (y : Node). set (set ns q y1) p y) e2 ∙ ap (λ (x : List Node). set x p (with_child r (at x p) (Some l))) f1 in
       moved ms (long ∙ ap length f2) (λ d. a d ∙ ap (λ (x : List Node). get_or x l d) f2) (λ d. b d ∙ ap (λ (x : List Node). get_or x h d) f2) (λ k d m n. c k d m n ∙ ap (λ (x : List Node). get_or x k d) f2)
 
--- nothing changes places where h is l
-pub moved_none : (ns : List Node) (u h : ℕ) → Trie (at ns) u → Moved ns ns u h h
-moved_none ns u h t = record { long = refl; sure = t.sure; nodes = λ j hj. ap (λ (k : ℕ). bare (at ns k)) (sym (same j)); links = λ s j hj. ap (λ (k : ℕ). child s (at ns k)) (sym (same j)) ∙ sym (same (child s (at ns (swapped h h j)))) }
-  where
-    same : (j : ℕ) → swapped h h j ≡ j
-    same = swapped_each h h (λ j k. k ≡ j) refl refl (λ j n m. refl)
-
 -- the same trie and the same routes, in other slots
 module _ (ns ms : List Node) (u h l : ℕ) (m : Moved ns ms u h l) (t : Trie (at ns) u) (ul : u ≤ length ns) (hu : h < u) (lu : l < u) (h0 : 0 < h) (l0 : 0 < l) where
   pub moved_nil : swapped h l 65535 ≡ 65535

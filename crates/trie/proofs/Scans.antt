@@ -1,8 +1,8 @@
 -- A lookup, step by step.
-use Rattle.std.proofs.Common.{◌≡◌, ℕ, ◌<◌, ◌≤◌, ◌≢◌, ◌⊎◌, List, Some, None, Option, sym, ap, ◌∙◌, subst, inl, inr, lt_trans, lt_irrefl, le_refl, arith}
+use Rattle.std.proofs.Common.{◌≡◌, ℕ, ◌<◌, ◌≤◌, ◌≢◌, ◌⊎◌, List, Some, None, Option, sym, ap, ◌∙◌, subst, inl, inr, lt_trans, lt_irrefl, arith}
 use Rattle.std.proofs.lemmas.Bool.{cases_lt}
 use Rattle.trie.specs.declared.node.Node.{Node}
-use Rattle.trie.specs.Nodes.{at, node_bit, slot_of, child}
+use Rattle.trie.specs.Nodes.{at, node_bit, slot_of}
 use Rattle.trie.specs.Trie.{Under, Beyond, Compressed}
 use Rattle.trie.proofs.Nodes.{linked}
 use Rattle.trie.specs.Search.{UpTo, Stepped, Reaches, First, Best, Scan}
@@ -35,9 +35,6 @@ module _ (ns : List Node) (u : ℕ) (g : Compressed ns u) (key : Node) where
     | inr l ↦ (let y : i ≡ j = g.trie.apart i j hi h (omega (arith, p.long)) p.same in absurd (s (ap (λ (k : ℕ). (at ns k).hop) (sym y) ∙ e)))
   ]
 
-  pub reach_start : (a : ℕ) → a < u → Reaches (at ns) u key a a
-  reach_start a h = record { slot = h; lower = le_refl _; rest = λ j hj v s p. p }
-
   -- branches are passed
   pub reach_next : (a i k : ℕ) → Reaches (at ns) u key a i → (at ns i).hop ≡ None → Stepped (at ns) key i (Some k) → Reaches (at ns) u key a k
   reach_next a i k x e d =
@@ -46,16 +43,6 @@ module _ (ns : List Node) (u : ℕ) (g : Compressed ns u) (key : Node) where
 
   pub reach_last : (a i : ℕ) → Reaches (at ns) u key a i → (at ns i).hop ≡ None → Stepped (at ns) key i None → First (at ns) u key a None
   reach_last a i x e d j h v s p = let q = x.rest j h v s p in step_none i x.slot d j h v q (strictly i j x.slot h e s q)
-
-  pub scan_none : u ≡ 0 → Best (at ns) u key None
-  scan_none e = record { covering = tt; longest = λ j h. absurd (lt_irrefl 0 (omega (arith, e, h))) }
-
-  pub scan_start : 0 < u → Scan (at ns) u key 0 None
-  scan_start h = record { slot = h; covering = tt; less = λ n z. absurd z; rest = λ j p v s. inr (g.trie.top j p) }
-
-  -- no route is left
-  pub scan_done : (a : ℕ) (r : Option ℕ) → Scan (at ns) u key a r → First (at ns) u key a None → Best (at ns) u key r
-  scan_done a r w x = record { covering = w.covering; longest = λ j h v s. elim (w.rest j h v s) [ inl p ↦ p | inr p ↦ absurd (x j h v s p) ] }
 
   -- slot i has a route, the first from slot a on
   module _ (a i : ℕ) (r : Option ℕ) (w : Scan (at ns) u key a r) (x : First (at ns) u key a (Some i)) where

@@ -1,6 +1,5 @@
-use Rattle.std.proofs.Common.{List, None, sym, ap, ◌∙◌, subst, arith, get_or-set_same}
+use Rattle.std.proofs.Common.{List, sym, subst}
 use Rattle.trie.specs.declared.node.Node.{Node}
-use Rattle.trie.specs.Nodes.{at, blank, with_hop}
 use Rattle.trie.specs.Changes.{Loose, Pruned}
 use Rattle.trie.proofs.Pruning.{cleared, dropped}
 use Rattle.trie.proofs.Entries.{dropped_is}
