@@ -58,7 +58,8 @@ module _ (rows : List Row) (good : InOrder rows) where
       within = s.within;
       nothing = held_between m i p (below p i s) (above f);
       entered = λ row k.
-          map_inserted entry_of rows i row ∙ ap (λ q. insert m i (route q row)) k ∙ sym (put_between m i p row (omega (arith, s.within, long)) (below p i s) (above f));
+          map_inserted entry_of rows i row ∙ ap (λ q. insert m i (route q row)) k
+          ∙ sym (put_between m i p row (omega (arith, s.within, long)) (below p i s) (above f));
     }
 
 -- where a prefix is among the rows is where it is in their map

@@ -22,7 +22,7 @@ module _ (w n : ℕ) (rows ys : List Row) (used : ys ≡ take n rows) where
   nth_past k l = ap (option_map (route_of w)) (sym (slice_get_past ys k l)) ∙ sym (route_at k)
 
 -- a proper row's address and length make its prefix
-pub row_checked : (w : ℕ) (row : Row) → w ≤ 128 → RowOk w row → checked (front w row.prefix.bits) row.prefix.len ≡ Ok (key row)
+row_checked : (w : ℕ) (row : Row) → w ≤ 128 → RowOk w row → checked (front w row.prefix.bits) row.prefix.len ≡ Ok (key row)
 row_checked w row l ok =
     let h = row.prefix.bits in
     let n : length (front w h) ≡ w = front_length w h l in
@@ -31,8 +31,14 @@ row_checked w row l ok =
     let c : clear (drop row.prefix.len (front w h)) ≡ true = sym (clear_front row.prefix.len w h s l a) ∙ aligned_clear row.prefix.len h ok.prefix_clear in
     checked_fine (front w h) row.prefix.len (omega arith) c ∙ ap Ok (front_front row.prefix.len w h s)
 
-pub ok_is : {p q : Bits} → ◌≡◌ {A = Result Bits ℕ} (Ok p) (Ok q) → p ≡ q
-ok_is e = cc
+pub prefix_is : (w : ℕ) (row : Row) (a p : Bits) → w ≤ 128 → RowOk w row → a ≡ front w row.prefix.bits → Ok p ≡ checked a row.prefix.len → p ≡ key row
+prefix_is w row a p l ok e f = is_ok (f ∙ ap (λ b. checked b row.prefix.len) e ∙ row_checked w row l ok)
+  where
+    is_ok : {q : Bits} → ◌≡◌ {A = Result Bits ℕ} (Ok p) (Ok q) → p ≡ q
+    is_ok g = cc
 
-pub err_not : {q : Bits} (n : ℕ) → ◌≡◌ {A = Result Bits ℕ} (Err n) (Ok q) → ⊥
-err_not n e = let z : ◌≡◌ {A = ℕ} 0 1 = cc in omega arith
+pub never_refused : (w : ℕ) (row : Row) (a : Bits) (n : ℕ) → w ≤ 128 → RowOk w row → a ≡ front w row.prefix.bits → Err n ≡ checked a row.prefix.len → ⊥
+never_refused w row a n l ok e f = not_ok (f ∙ ap (λ b. checked b row.prefix.len) e ∙ row_checked w row l ok)
+  where
+    not_ok : {q : Bits} → ◌≡◌ {A = Result Bits ℕ} (Err n) (Ok q) → ⊥
+    not_ok g = let z : ◌≡◌ {A = ℕ} 0 1 = cc in omega arith

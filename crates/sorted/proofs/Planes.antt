@@ -42,7 +42,8 @@ pub each_one : (w n : ℕ) (rows : List Row) → WellFormed w n rows → n ≡ l
 each_one w n rows good = sym (length-map (take n rows) (route_of w) ∙ length-take-le n rows (omega (arith, good.few)))
 
 -- from the map of the rows to the plane
-from_entries : (w n : ℕ) (rows : List Row) → n ≤ usable (length rows) → Rising (entries (take n rows)) → AllByRecursion (λ r. RowOk w r.value) (entries (take n rows)) → WellFormed w n rows
+from_entries : (w n : ℕ) (rows : List Row) → n ≤ usable (length rows) → Rising (entries (take n rows))
+    → AllByRecursion (λ r. RowOk w r.value) (entries (take n rows)) → WellFormed w n rows
 from_entries w n rows l g a = record {
   few = l;
   rising = subst Rising (sym (routes_are w n rows)) (rising_mapped (hop_of w) (entries (take n rows)) g);
@@ -77,18 +78,21 @@ module _ (w n : ℕ) (rows : List Row) (good : WellFormed w n rows) where
   held_proper ys p row u e = held_all (RowOk w) (entries xs) p row entries_proper (ap (λ zs. held (entries zs) p) (sym u) ∙ sym e)
 
   -- a row put in
-  inserted_good : (row : Row) (k : ℕ) (new : List Row) → length new ≡ length rows → RowOk w row → k ≤ usable (length rows) → entries (take k new) ≡ put (entries xs) (key row) row → WellFormed w k new
+  inserted_good : (row : Row) (k : ℕ) (new : List Row) → length new ≡ length rows → RowOk w row → k ≤ usable (length rows)
+      → entries (take k new) ≡ put (entries xs) (key row) row → WellFormed w k new
   inserted_good row k new e ok l i = from_entries w k new (omega arith)
       (subst Rising (sym i) (put_rises (entries xs) (key row) row entries_rise))
       (subst (AllByRecursion (λ r. RowOk w r.value)) (sym i) (put_all (λ r. RowOk w r.value) (entries xs) (key row) row ok entries_proper))
 
-  pub inserted_plane : {U : Type 0} (u : U) (row : Row) (k : ℕ) (new : List Row) → Inserted (usable (length rows)) row n rows k new (Ok u) → routes w k new ≡ put (routes w n rows) (key row) (hop_of w row)
+  pub inserted_plane : {U : Type 0} (u : U) (row : Row) (k : ℕ) (new : List Row) → Inserted (usable (length rows)) row n rows k new (Ok u)
+      → routes w k new ≡ put (routes w n rows) (key row) (hop_of w row)
   inserted_plane u row k new i =
       routes_are w k new ∙ ap (mapped (hop_of w)) i.1 ∙ sym (put_mapped (hop_of w) (entries xs) (key row) row)
       ∙ ap (λ (m : Plane). put m (key row) (hop_of w row)) (sym (routes_are w n rows))
 
   -- no row left for a new prefix
-  pub full : (row : Row) → n ≡ usable (length rows) → held (entries xs) (key row) ≡ None → fits_rows (usable (length rows)) (put (routes w n rows) (key row) (hop_of w row)) ≡ false
+  pub full : (row : Row) → n ≡ usable (length rows) → held (entries xs) (key row) ≡ None
+      → fits_rows (usable (length rows)) (put (routes w n rows) (key row) (hop_of w row)) ≡ false
   full row f h =
       let e : held (routes w n rows) (key row) ≡ None = plane_holds (key row) ∙ ap (made (hop_of w)) h in
       let long : length (put (routes w n rows) (key row) (hop_of w row)) ≡ suc (length (routes w n rows)) = put_length (routes w n rows) (key row) (hop_of w row) e in
@@ -105,11 +109,13 @@ module _ (w n : ℕ) (rows : List Row) (good : WellFormed w n rows) where
       routes_are w k new ∙ ap (mapped (hop_of w)) i.1 ∙ sym (removed_mapped (hop_of w) (entries xs) p)
       ∙ ap (λ (m : Plane). removed m p) (sym (routes_are w n rows))
 
-  pub inserted_well : {U : Type 0} (r : Result U Refusal) (row : Row) (k : ℕ) (new : List Row) → RowOk w row → length new ≡ length rows → Inserted (usable (length rows)) row n rows k new r → WellFormed w k new
+  pub inserted_well : {U : Type 0} (r : Result U Refusal) (row : Row) (k : ℕ) (new : List Row) → RowOk w row → length new ≡ length rows
+      → Inserted (usable (length rows)) row n rows k new r → WellFormed w k new
   inserted_well (Ok u) row k new ok e i = inserted_good row k new e ok i.0 i.1
   inserted_well (Err y) row k new ok e i = rw (i.1, i.2) good
 
-  pub removed_well : {U : Type 0} (r : Result U Refusal) (p : Bits) (k : ℕ) (new : List Row) → length new ≡ length rows → Removed p n rows k new r → WellFormed w k new
+  pub removed_well : {U : Type 0} (r : Result U Refusal) (p : Bits) (k : ℕ) (new : List Row) → length new ≡ length rows
+      → Removed p n rows k new r → WellFormed w k new
   removed_well (Ok u) p k new e i = removed_good p k new e (omega (arith, i.0)) i.1
   removed_well (Err y) p k new e i = rw (i.1, i.2) good
 
@@ -134,13 +140,15 @@ module _ (w n : ℕ) (rows : List Row) (good : WellFormed w n rows) where
       ap (covers (key (at xs k))) (front_is w a)
       ∙ covers_front (at xs k).prefix.len w (at xs k).prefix.bits (word a) (proper_at k l).short (omega (arith, (proper_at k l).short))
 
-  misses : w ≤ 128 → (a : Halves) (b k : ℕ) → k < length xs → matching (word a) b (at xs k) ≡ false → covers (get_or m k none).prefix (front w a) ≡ true → length (get_or m k none).prefix ≤ b → ⊥
+  misses : w ≤ 128 → (a : Halves) (b k : ℕ) → k < length xs → matching (word a) b (at xs k) ≡ false
+      → covers (get_or m k none).prefix (front w a) ≡ true → length (get_or m k none).prefix ≤ b → ⊥
   misses narrow a b k l f e h =
       let long : length (get_or m k none).prefix ≡ (at xs k).prefix.len = ap (λ r. length r.prefix) (plane_at k l) ∙ row_length narrow k l in
       true≢false (sym (and_from _ _ (le-leb _ _ (omega arith)) (sym (row_covers narrow a k l) ∙ ap (λ r. covers r.prefix (front w a)) (sym (plane_at k l)) ∙ e)) ∙ f)
 
   -- the answer of a lookup, by the last match
-  found_is : w ≤ 128 → (a : Halves) (b i : ℕ) → b ≤ w → LastMatch xs (word a) b (Some i) → Some ((at xs i).prefix.len, hop_of w (at xs i)) ≡ answer (held m) (front w a) b
+  found_is : w ≤ 128 → (a : Halves) (b i : ℕ) → b ≤ w → LastMatch xs (word a) b (Some i)
+      → Some ((at xs i).prefix.len, hop_of w (at xs i)) ≡ answer (held m) (front w a) b
   found_is narrow a b i l f =
       let x = and_parts _ _ f.1 in
       let e : get_or m i none ≡ route_of w (at xs i) = plane_at i f.0 in
@@ -152,7 +160,8 @@ module _ (w n : ℕ) (rows : List Row) (good : WellFormed w n rows) where
       (ap (λ r. covers r.prefix (front w a)) e ∙ row_covers narrow a i f.0 ∙ x.1) (omega arith)
       (λ k h t. misses narrow a b k (omega (arith, plane_length)) (f.2 k h (omega (arith, plane_length))))
 
-  none_is : w ≤ 128 → (a : Halves) (b : ℕ) → b ≤ w → LastMatch xs (word a) b None → ◌≡◌ {A = Option (ℕ × Hop)} None (answer (held m) (front w a) b)
+  none_is : w ≤ 128 → (a : Halves) (b : ℕ) → b ≤ w → LastMatch xs (word a) b None
+      → ◌≡◌ {A = Option (ℕ × Hop)} None (answer (held m) (front w a) b)
   none_is narrow a b l f =
       let wide : length (front w a) ≡ w = front_length w a narrow in
       none_answers m none (front w a) b (omega arith) (λ k t. misses narrow a b k (omega (arith, plane_length)) (f k (omega (arith, plane_length))))
@@ -166,4 +175,6 @@ module _ (w n : ℕ) (rows : List Row) (good : WellFormed w n rows) where
 
   pub none_longest : (ys : List Row) (a h : Halves) (q : Bits) (b : ℕ) → ys ≡ xs → w ≤ 128 → a ≡ h → q ≡ front w h → b ≤ w → LastMatch ys (word a) b None
       → ◌≡◌ {A = Option (ℕ × Hop)} None (answer (held m) q b)
-  none_longest ys a h q b u narrow d e l f = none_is narrow a b l (subst (λ (zs : List Row). LastMatch zs (word a) b None) u f) ∙ ap (λ t. answer (held m) t b) (ap (front w) d ∙ sym e)
+  none_longest ys a h q b u narrow d e l f =
+      none_is narrow a b l (subst (λ (zs : List Row). LastMatch zs (word a) b None) u f)
+      ∙ ap (λ t. answer (held m) t b) (ap (front w) d ∙ sym e)

@@ -19,7 +19,8 @@ end_of (Ok i) = i + 1
 end_of (Err i) = i
 
 -- a row past that end stands after p
-past : (rows : List Row) (p : Bits) → InOrder rows → (r : Result ℕ ℕ) → Located rows p r → (k : ℕ) → end_of r ≤ k → k < length rows → order (key (at rows k)) p ≡ after
+past : (rows : List Row) (p : Bits) → InOrder rows → (r : Result ℕ ℕ) → Located rows p r → (k : ℕ) → end_of r ≤ k → k < length rows
+    → order (key (at rows k)) p ≡ after
 past rows p o (Ok i) s k h l = flip_before p (key (at rows k)) (ap (λ q. order q (key (at rows k))) (sym s.2) ∙ order_at rows o i k (omega arith) l)
 past rows p o (Err i) s k h l = after_else (key (at rows k)) p (s.0.later k h l) (λ e. go e (cases_eq i k))
   where
@@ -27,7 +28,8 @@ past rows p o (Err i) s k h l = after_else (key (at rows k)) p (s.0.later k h l)
     go e (inl f) = s.1 (omega arith) (ap (λ j. key (at rows j)) f ∙ e)
     go e (inr f) = s.0.later i (omega arith) (omega arith) (ap (order (key (at rows i))) (sym e) ∙ order_at rows o i k (omega arith) l)
 
-past_misses : (rows : List Row) (a : Halves) (b : ℕ) → InOrder rows → (r : Result ℕ ℕ) → Located rows (front b a) r → (k : ℕ) → end_of r ≤ k → k < length rows → matching (word a) b (at rows k) ≡ false
+past_misses : (rows : List Row) (a : Halves) (b : ℕ) → InOrder rows → (r : Result ℕ ℕ) → Located rows (front b a) r
+    → (k : ℕ) → end_of r ≤ k → k < length rows → matching (word a) b (at rows k) ≡ false
 past_misses rows a b o r s k l m = go (cases_Bool (matching (word a) b (at rows k)))
   where
     go : (matching (word a) b (at rows k) ≡ true) ⊎ (matching (word a) b (at rows k) ≡ false) → matching (word a) b (at rows k) ≡ false
@@ -36,7 +38,8 @@ past_misses rows a b o r s k l m = go (cases_Bool (matching (word a) b (at rows 
         let x = and_parts _ _ e in
         let long : length (key (at rows k)) ≡ (at rows k).prefix.len = front_length _ _ (o.short k m) in
         let short : (at rows k).prefix.len ≤ b = leb-true _ _ x.0 in
-        absurd (covering_not_after (key (at rows k)) (word a) b x.1 (omega arith) (ap (order (key (at rows k))) (sym (front_is b a)) ∙ past rows (front b a) o r s k l m))
+        absurd (covering_not_after (key (at rows k)) (word a) b x.1 (omega arith)
+        (ap (order (key (at rows k))) (sym (front_is b a)) ∙ past rows (front b a) o r s k l m))
 
 -- the end is among the rows
 end_within : (rows : List Row) (p : Bits) (r : Result ℕ ℕ) → Located rows p r → end_of r ≤ length rows

@@ -1,6 +1,6 @@
 -- Where a binary search among the rows ends.
 use Rattle.std.proofs.Common.{◌≡◌, ℕ, ◌<◌, ◌≤◌, ◌⊎◌, List, length, Ok, Err, Result, sym, ap, ◌∙◌, refl, inl, inr, arith}
-use Rattle.std.proofs.lemmas.List.{get_or_default}
+use Rattle.std.proofs.lemmas.List.Sorted.{IsNonDecreasingBy-from_default}
 use Rattle.std.proofs.lemmas.Bool.{cases_eq}
 use Rattle.std.specs.declared.cmp.Ordering.TheVariants.{Less, Equal, Greater}
 use Rattle.std.specs.declared.cmp.Ordering.{Ordering}
@@ -42,12 +42,16 @@ rises p q r e = go (order q r) refl
     go same f = low (ap (order p) (sym (same_is q r f)) ∙ e) (order q r)
     go after f = let z : ordering_index (named (order q r)) ≡ 2 = ap (λ x. ordering_index (named x)) f in omega (arith, z, index_low (order p r))
 
-orders_rise : (rows : List Row) (p : Bits) → InOrder rows → IsNonDecreasingBy (λ row. ordering_index (named (order (key row) p))) rows
-orders_rise rows p o i j d l h = rw (get_or_default rows i d unused (omega arith), get_or_default rows j d unused h) (go (cases_eq i j))
+-- the place in Ordering of a row's order to p
+abbrev rank : Bits → Row → ℕ
+rank p row = ordering_index (named (order (key row) p))
+
+orders_rise : (rows : List Row) (p : Bits) → InOrder rows → IsNonDecreasingBy (rank p) rows
+orders_rise rows p o = IsNonDecreasingBy-from_default (rank p) rows unused (λ i j l h. go i j l h (cases_eq i j))
   where
-    go : (i ≡ j) ⊎ (i ≡ j → ⊥) → ordering_index (named (order (key (at rows i)) p)) ≤ ordering_index (named (order (key (at rows j)) p))
-    go (inl f) = let z : ordering_index (named (order (key (at rows i)) p)) ≡ ordering_index (named (order (key (at rows j)) p)) = ap (λ k. ordering_index (named (order (key (at rows k)) p))) f in omega (arith, z)
-    go (inr f) = rises (key (at rows i)) (key (at rows j)) p (order_at rows o i j (omega arith) h)
+    go : (i j : ℕ) → i ≤ j → j < length rows → (i ≡ j) ⊎ (i ≡ j → ⊥) → rank p (at rows i) ≤ rank p (at rows j)
+    go i j l h (inl f) = let z : rank p (at rows i) ≡ rank p (at rows j) = ap (λ k. rank p (at rows k)) f in omega (arith, z)
+    go i j l h (inr f) = rises (key (at rows i)) (key (at rows j)) p (order_at rows o i j (omega arith) h)
 
 is_named : (o x : Order) → named o ≡ named x → o ≡ x
 is_named o x e = back o ∙ ap stands e ∙ sym (back x)
@@ -70,7 +74,8 @@ at_own_place rows p i o l e = record {
 
     go : (k : ℕ) → i ≤ k → k < length rows → order (key (at rows k)) p ≡ before → (i ≡ k) ⊎ (i ≡ k → ⊥) → ⊥
     go k h m f (inl g) = before≢same (sym f ∙ ap (λ j. order (key (at rows j)) p) (sym g) ∙ e)
-    go k h m f (inr g) = before≢after (sym f ∙ flip_before p (key (at rows k)) (ap (λ q. order q (key (at rows k))) (sym is) ∙ order_at rows o i k (omega arith) m))
+    go k h m f (inr g) =
+        before≢after (sym f ∙ flip_before p (key (at rows k)) (ap (λ q. order q (key (at rows k))) (sym is) ∙ order_at rows o i k (omega arith) m))
 
 -- what a binary search by the order to p answers
 pub located : (rows : List Row) (p : Bits) → InOrder rows → (r : Result ℕ ℕ) → IsSearchInRange r (length rows)

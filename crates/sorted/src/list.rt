@@ -12,6 +12,7 @@ use crate::search::{best, find, place_of};
 use crate::shift::{insert_at, remove_at};
 use address::kind::Address;
 use bits::front::Front;
+use bits::halves::Halves;
 use std::marker::PhantomData;
 use table::borrowed::{hop_in, room_in};
 use table::calls::Refusal;
@@ -144,11 +145,12 @@ fn row_of<A: Address>(prefix: A::Prefix, hop: A) -> Row
 }
 
 // The prefix of a row.
+#[tactic(auto, using(bits::proofs::Fronts::aligned_wider, crate::proofs::Nth::never_refused))]
 fn prefix_of<A: Address>(row: Row) -> A::Prefix
     requires { RowOk A.Address.WIDTH row }
     ensures { A.Address.pbits result ≡ key row }
 {
-    let Ok(prefix) = A::from_halves(row.prefix.bits).prefix(row.prefix.len) else {
+    let Ok(prefix) = address_in::<A>(row.prefix.bits).prefix(row.prefix.len) else {
         unreachable()
     };
     prefix
@@ -159,7 +161,16 @@ fn next_hop<A: Address>(row: Row) -> A
     requires { RowOk A.Address.WIDTH row }
     ensures { A.Address.bits result ≡ front A.Address.WIDTH row.hop }
 {
-    hop_in(row.hop)
+    address_in(row.hop)
+}
+
+// The address in these halves.
+fn address_in<A: Address>(halves: Halves) -> A
+    requires clear { Aligned A.Address.width halves }
+    requires fits { Fit halves }
+    ensures { A.Address.bits result ≡ front A.Address.width halves }
+{
+    hop_in(halves)
 }
 
 impl<'a, A: Address> OnePlane for Sorted<'a, A> {
