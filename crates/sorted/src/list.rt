@@ -166,9 +166,9 @@ fn next_hop<A: Address>(row: Row) -> A
 
 // The address in these halves.
 fn address_in<A: Address>(halves: Halves) -> A
-    requires clear { Aligned A.Address.width halves }
+    requires clear { Aligned A.Address.WIDTH halves }
     requires fits { Fit halves }
-    ensures { A.Address.bits result ≡ front A.Address.width halves }
+    ensures { A.Address.bits result ≡ front A.Address.WIDTH halves }
 {
     hop_in(halves)
 }
