@@ -2,40 +2,46 @@
 // then another through stacks of layers in three orders, and prints the filled slots of their caches after each call.
 #![tactic(auto)]
 
+ghost use Rattle.tour_support.specs.Room.{ListFits};
+
 mod stacks;
 
-use address::ipv4::Ipv4;
-use address::ipv6::Ipv6;
+use address::kind::Address;
 use sorted::list::Sorted;
 use sorted::row::Row;
-use table::run::run;
-use tour_support::calls::asked;
-use tour_support::print::{print_exchanges, print_refused, print_routes};
+use std::fmt;
+use table::calls::Call;
+use tour_support::calls::on_three_rows;
+use tour_support::print::{print_refused, print_routes};
 use tour_support::samples;
+use tour_support::samples::Samples;
+use tour_support::walk::run_through;
 
-// The calls on a fresh table of the kind, with what comes of them.
-macro_rules! tour {
-    ($rt:expr, $kind:ty, $at:expr, $width:expr) => {{
-        let at = $at;
-        print_refused($rt, at.inside, $width + 1)?;
-        print_refused($rt, at.inside, 8)?;
-        let mut exchanges = asked($rt.alloc(), at)?;
-        let mut rows = [Row::blank(); 3];
-        let mut table: Sorted<$kind> = Sorted::new(&mut rows);
-        run(&mut table, exchanges.as_mut_slice());
-        print_exchanges($rt, exchanges.as_slice())?;
-        print_routes($rt, &table)
-    }};
+// The calls on a fresh list of three rows, with what comes of them and the routes that it then holds.
+fn tour<A, P>(rt: &HostRuntime, at: Samples<A, P>, calls: &[Call<A, P>]) -> anyhow::Result<()>
+where
+    A: Address<Prefix = P> + fmt::Display,
+    P: Copy + fmt::Display,
+    requires { ListFits A.row P.row }
+{
+    print_refused(rt, at.inside, A::WIDTH.saturating_add(1))?;
+    print_refused(rt, at.inside, 8)?;
+    let mut rows = [Row::blank(); 3];
+    let mut table = Sorted::<A>::new(&mut rows);
+    run_through(rt, &mut table, calls)?;
+    print_routes(rt, &table)
 }
 
 fn ipv4(rt: &HostRuntime) -> anyhow::Result<()> {
     println!(rt; "IPv4")?;
-    tour!(rt, Ipv4, samples::ipv4()?, 32)
+    let at = samples::ipv4()?;
+    tour(rt, at, &on_three_rows(at))
 }
 
 fn ipv6(rt: &HostRuntime) -> anyhow::Result<()> {
     println!(rt; "IPv6")?;
-    tour!(rt, Ipv6, samples::ipv6()?, 128)
+    let at = samples::ipv6()?;
+    tour(rt, at, &on_three_rows(at))
 }
 
 fn main(rt: HostRuntime) -> anyhow::Result<()> {

@@ -1,274 +1,80 @@
 use crate::samples::Samples;
 use address::kind::Address;
-use std::alloc::{AllocError, Global};
-use table::calls::{Call, Exchange};
+use table::calls::Call;
 
-// A list of calls with places for their replies.
-pub type Calls<A, P> = Vec<Exchange<A, P>>;
-
-// One call more.
-fn ask<A: Copy, P: Copy>(list: &mut Calls<A, P>, call: Call<A, P>) -> Result<(), AllocError> {
-    list.push(Exchange { call, reply: None })?;
-    Ok(())
+// A call to announce the prefix.
+fn announce<A, P>(plane: u16, prefix: P, hop: A) -> Call<A, P> {
+    Call::Announce { plane, prefix, hop }
 }
 
-// Two routes, one beneath the other, and lookups at several bounds.
-fn ask_bounds<A: Copy, P: Copy>(
-    list: &mut Calls<A, P>,
-    at: Samples<A, P>,
-    width: u8,
-    below: u8,
-) -> Result<(), AllocError> {
-    let address = at.inside;
-    ask(
-        list,
-        Call::Lookup {
-            address,
-            bound: width,
-        },
-    )?;
-    ask(
-        list,
-        Call::Announce {
-            plane: 0,
-            prefix: at.wide,
-            hop: at.first,
-        },
-    )?;
-    ask(
-        list,
-        Call::Announce {
-            plane: 0,
-            prefix: at.narrow,
-            hop: at.second,
-        },
-    )?;
-    ask(
-        list,
-        Call::Lookup {
-            address,
-            bound: width,
-        },
-    )?;
-    ask(
-        list,
-        Call::Lookup {
-            address,
-            bound: below,
-        },
-    )?;
-    ask(list, Call::Lookup { address, bound: 0 })?;
-    ask(
-        list,
-        Call::Announce {
-            plane: 0,
-            prefix: at.all,
-            hop: at.first,
-        },
-    )?;
-    ask(list, Call::Lookup { address, bound: 0 })?;
-    ask(
-        list,
-        Call::Lookup {
-            address,
-            bound: width.saturating_add(1),
-        },
-    )?;
-    ask(
-        list,
-        Call::Lookup {
-            address: at.outside,
-            bound: width,
-        },
-    )
+// A call to withdraw it.
+fn withdraw<A, P>(plane: u16, prefix: P) -> Call<A, P> {
+    Call::Withdraw { plane, prefix }
 }
 
-// What a full table takes and refuses, and what it takes after a withdrawal.
-fn ask_full<A: Copy, P: Copy>(
-    list: &mut Calls<A, P>,
-    at: Samples<A, P>,
-    width: u8,
-) -> Result<(), AllocError> {
-    ask(
-        list,
-        Call::Announce {
-            plane: 0,
-            prefix: at.host,
-            hop: at.second,
-        },
-    )?;
-    ask(
-        list,
-        Call::Announce {
-            plane: 0,
-            prefix: at.narrow,
-            hop: at.first,
-        },
-    )?;
-    ask(
-        list,
-        Call::Fetch {
-            plane: 0,
-            prefix: at.narrow,
-        },
-    )?;
-    ask(
-        list,
-        Call::Fetch {
-            plane: 0,
-            prefix: at.host,
-        },
-    )?;
-    ask(
-        list,
-        Call::Announce {
-            plane: 1,
-            prefix: at.host,
-            hop: at.second,
-        },
-    )?;
-    ask(
-        list,
-        Call::Withdraw {
-            plane: 0,
-            prefix: at.host,
-        },
-    )?;
-    ask(
-        list,
-        Call::Withdraw {
-            plane: 0,
-            prefix: at.wide,
-        },
-    )?;
-    ask(
-        list,
-        Call::Announce {
-            plane: 0,
-            prefix: at.host,
-            hop: at.second,
-        },
-    )?;
-    ask(
-        list,
-        Call::Lookup {
-            address: at.inside,
-            bound: width,
-        },
-    )?;
-    ask(
-        list,
-        Call::Fetch {
-            plane: 0,
-            prefix: at.wide,
-        },
-    )
+// A call to fetch it.
+fn fetch<A, P>(plane: u16, prefix: P) -> Call<A, P> {
+    Call::Fetch { plane, prefix }
 }
 
-// All the calls of the tour, for a table of three rows.
-pub fn asked<A: Address>(
-    heap: Global,
-    at: Samples<A, A::Prefix>,
-) -> Result<Calls<A, A::Prefix>, AllocError> {
-    let below = A::len(at.narrow).saturating_sub(1);
-    let mut exchanges = Vec::new(heap);
-    ask_bounds(&mut exchanges, at, A::WIDTH, below)?;
-    ask_full(&mut exchanges, at, A::WIDTH)?;
-    Ok(exchanges)
+// A call to look the address up.
+fn lookup<A, P>(address: A, bound: u8) -> Call<A, P> {
+    Call::Lookup { address, bound }
 }
 
-// One call more, on a stack.
-fn call<A: Copy, P: Copy>(list: &mut Vec<Call<A, P>>, call: Call<A, P>) -> Result<(), AllocError> {
-    list.push(call)?;
-    Ok(())
+// Calls on a table of three rows: two routes, one beneath the other, and lookups at several bounds; then what a full table takes and
+// refuses, and what it takes after a withdrawal.
+pub fn on_three_rows<A, P>(at: Samples<A, P>) -> [Call<A, P>; 20]
+where
+    A: Address<Prefix = P>,
+    P: Copy,
+{
+    let width = A::WIDTH;
+    [
+        lookup(at.inside, width),
+        announce(0, at.wide, at.first),
+        announce(0, at.narrow, at.second),
+        lookup(at.inside, width),
+        lookup(at.inside, A::len(at.narrow).saturating_sub(1)),
+        lookup(at.inside, 0),
+        announce(0, at.all, at.first),
+        lookup(at.inside, 0),
+        lookup(at.inside, width.saturating_add(1)),
+        lookup(at.outside, width),
+        announce(0, at.host, at.second),
+        announce(0, at.narrow, at.first),
+        fetch(0, at.narrow),
+        fetch(0, at.host),
+        announce(1, at.host, at.second),
+        withdraw(0, at.host),
+        withdraw(0, at.wide),
+        announce(0, at.host, at.second),
+        lookup(at.inside, width),
+        fetch(0, at.wide),
+    ]
 }
 
 // Calls on a stack of two planes: the same prefix on both, lookups that are cached, and a withdrawal that empties a slot.
-pub fn on_two_planes<A: Address>(
-    heap: Global,
-    at: Samples<A, A::Prefix>,
-) -> Result<Vec<Call<A, A::Prefix>>, AllocError> {
-    let address = at.inside;
-    let bound = A::WIDTH;
-    let mut list = Vec::new(heap);
-    call(
-        &mut list,
-        Call::Announce {
-            plane: 0,
-            prefix: at.wide,
-            hop: at.first,
-        },
-    )?;
-    call(
-        &mut list,
-        Call::Announce {
-            plane: 0,
-            prefix: at.narrow,
-            hop: at.second,
-        },
-    )?;
-    call(
-        &mut list,
-        Call::Announce {
-            plane: 1,
-            prefix: at.narrow,
-            hop: at.second,
-        },
-    )?;
-    call(
-        &mut list,
-        Call::Announce {
-            plane: 1,
-            prefix: at.all,
-            hop: at.second,
-        },
-    )?;
-    call(&mut list, Call::Lookup { address, bound })?;
-    call(&mut list, Call::Lookup { address, bound })?;
-    call(
-        &mut list,
-        Call::Lookup {
-            address: at.outside,
-            bound,
-        },
-    )?;
-    call(&mut list, Call::Lookup { address, bound: 4 })?;
-    call(
-        &mut list,
-        Call::Withdraw {
-            plane: 1,
-            prefix: at.wide,
-        },
-    )?;
-    call(
-        &mut list,
-        Call::Withdraw {
-            plane: 0,
-            prefix: at.wide,
-        },
-    )?;
-    call(&mut list, Call::Lookup { address, bound })?;
-    call(
-        &mut list,
-        Call::Fetch {
-            plane: 0,
-            prefix: at.narrow,
-        },
-    )?;
-    call(
-        &mut list,
-        Call::Announce {
-            plane: 2,
-            prefix: at.host,
-            hop: at.first,
-        },
-    )?;
-    call(
-        &mut list,
-        Call::Lookup {
-            address,
-            bound: bound.saturating_add(1),
-        },
-    )?;
-    Ok(list)
+pub fn on_two_planes<A, P>(at: Samples<A, P>) -> [Call<A, P>; 14]
+where
+    A: Address<Prefix = P>,
+    P: Copy,
+{
+    let width = A::WIDTH;
+    [
+        announce(0, at.wide, at.first),
+        announce(0, at.narrow, at.second),
+        announce(1, at.narrow, at.second),
+        announce(1, at.all, at.second),
+        lookup(at.inside, width),
+        lookup(at.inside, width),
+        lookup(at.outside, width),
+        lookup(at.inside, 4),
+        withdraw(1, at.wide),
+        withdraw(0, at.wide),
+        lookup(at.inside, width),
+        fetch(0, at.narrow),
+        announce(2, at.host, at.first),
+        lookup(at.inside, width.saturating_add(1)),
+    ]
 }

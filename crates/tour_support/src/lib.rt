@@ -5,4 +5,5 @@ pub mod calls;
 pub mod print;
 pub mod samples;
 pub mod slots;
+pub mod stacks;
 pub mod walk;

@@ -18,41 +18,15 @@ pub fn print_refused<A: Address + fmt::Display>(
     Ok(())
 }
 
-// Prints a call.
-pub fn print_call<A: fmt::Display + Copy, P: fmt::Display + Copy>(
+// Prints a call with its reply.
+pub fn print_made<A: fmt::Display + Copy, P: fmt::Display + Copy>(
     rt: &HostRuntime,
     call: Call<A, P>,
-) -> anyhow::Result<()> {
-    match call {
-        Call::Announce { plane, prefix, hop } => print!(rt;
-            "announce {prefix} via {hop} on plane {plane}"
-        )?,
-        Call::Withdraw { plane, prefix } => print!(rt; "withdraw {prefix} on plane {plane}")?,
-        Call::Fetch { plane, prefix } => print!(rt; "fetch {prefix} on plane {plane}")?,
-        Call::Lookup { address, bound } => print!(rt; "lookup {address} at bound {bound}")?,
-    }
-    Ok(())
-}
-
-// Prints a reply.
-pub fn print_reply<A: fmt::Display + Copy>(
-    rt: &HostRuntime,
     reply: Reply<A>,
 ) -> anyhow::Result<()> {
     match reply {
-        Reply::Done => println!(rt; ": done")?,
-        Reply::Holds(hop) => match hop {
-            Some(hop) => println!(rt; ": {hop}")?,
-            None => println!(rt; ": none")?,
-        },
-        Reply::Found(answer) => match answer {
-            Some((len, hop)) => println!(rt; ": length {len} via {hop}")?,
-            None => println!(rt; ": none")?,
-        },
-        Reply::Refused(refusal) => {
-            let number = refusal.number();
-            println!(rt; ": refused {number}")?;
-        }
+        Ok(granted) => println!(rt; "{call}: {granted}")?,
+        Err(refusal) => println!(rt; "{call}: {refusal}")?,
     }
     Ok(())
 }
@@ -63,10 +37,10 @@ pub fn print_exchanges<A: fmt::Display + Copy, P: fmt::Display + Copy>(
     exchanges: &[Exchange<A, P>],
 ) -> anyhow::Result<()> {
     for exchange in exchanges {
-        print_call(rt, exchange.call)?;
+        let call = exchange.call;
         match exchange.reply {
-            Some(reply) => print_reply(rt, reply)?,
-            None => println!(rt; ": not made")?,
+            Some(reply) => print_made(rt, call, reply)?,
+            None => println!(rt; "{call}: not made")?,
         }
     }
     Ok(())
@@ -80,6 +54,7 @@ where
     requires { WellFormed A.Address.WIDTH table.now.used table.now.rows.now }
 {
     println!(rt; "table")?;
+    // by place: with `filter_map` over `table.route`, the size of what the closure holds stays open, and the loop is not covered
     for i in 0..table.route_count() {
         if let Some((prefix, hop)) = table.route(i) {
             println!(rt; "{prefix} via {hop}")?;

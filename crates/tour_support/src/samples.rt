@@ -22,11 +22,10 @@ pub struct Samples<A, P> {
 
 // An address and a length that have to make a prefix.
 fn net<A: Address>(address: A, len: u8) -> anyhow::Result<A::Prefix> {
-    match address.prefix(len) {
-        Ok(prefix) => Ok(prefix),
-        Err(PrefixRefusal::TooLong) => Err(anyhow!("the prefix is too long")),
-        Err(PrefixRefusal::StrayBits) => Err(anyhow!("the prefix has a bit beyond its length")),
-    }
+    address.prefix(len).map_err(|refusal| match refusal {
+        PrefixRefusal::TooLong => anyhow!("the prefix is too long"),
+        PrefixRefusal::StrayBits => anyhow!("the prefix has a bit beyond its length"),
+    })
 }
 
 fn dotted(a: u8, b: u8, c: u8, d: u8) -> Ipv4 {

@@ -5,6 +5,7 @@ use filter::layer::Filter;
 use patricia::patricia::Patricia;
 use sorted::list::Sorted;
 use std::fmt;
+use table::calls::Granted;
 use table::interface::Table;
 
 // A stack that can print what the slots of its caches hold.
@@ -43,14 +44,10 @@ where
 {
     fn print_slots(&self, rt: &HostRuntime) -> anyhow::Result<()> {
         print!(rt; "  slots")?;
-        for i in 0..4096 {
-            if let Some(entry) = self.entry(i) {
-                let address = entry.address;
-                match entry.answer {
-                    Some((len, hop)) => print!(rt; " [{i}] {address} length {len} via {hop}")?,
-                    None => print!(rt; " [{i}] {address} none")?,
-                }
-            }
+        for (i, entry) in (0..4096).filter_map(|i| Some((i, self.entry(i)?))) {
+            let address = entry.address;
+            let answer = Granted::Found(entry.answer);
+            print!(rt; " [{i}] {address} {answer}")?;
         }
         println!(rt; "")?;
         self.inner().print_slots(rt)

@@ -2,39 +2,42 @@
 // is a sorted list.
 #![tactic(auto)]
 
+ghost use Rattle.tour_support.specs.Room.{TrieFits};
+
 mod stacks;
 
-use address::ipv4::Ipv4;
-use address::ipv6::Ipv6;
+use address::kind::Address;
 use patricia::patricia::Patricia;
-use table::run::run;
-use tour_support::calls::asked;
-use tour_support::print::print_exchanges;
+use std::fmt;
+use table::calls::Call;
+use tour_support::calls::on_three_rows;
 use tour_support::samples;
+use tour_support::walk::run_through;
 use trie::node::Node;
 
-// The calls on a fresh table of the kind, with what comes of them and the nodes that are then in use.
-macro_rules! tour {
-    ($rt:expr, $kind:ty, $at:expr) => {{
-        let mut exchanges = asked($rt.alloc(), $at)?;
-        let mut nodes = [Node::blank(); 3];
-        let mut table: Patricia<$kind> = Patricia::new(&mut nodes);
-        run(&mut table, exchanges.as_mut_slice());
-        print_exchanges($rt, exchanges.as_slice())?;
-        let used = table.node_count();
-        println!($rt; "nodes in use: {used}")?;
-        Ok(())
-    }};
+// The calls on a fresh table of three nodes, with what comes of them and the nodes that are then in use.
+fn tour<A, P>(rt: &HostRuntime, calls: &[Call<A, P>]) -> anyhow::Result<()>
+where
+    A: Address<Prefix = P> + fmt::Display,
+    P: Copy + fmt::Display,
+    requires { TrieFits A.row P.row }
+{
+    let mut nodes = [Node::blank(); 3];
+    let mut table = Patricia::<A>::new(&mut nodes);
+    run_through(rt, &mut table, calls)?;
+    let used = table.node_count();
+    println!(rt; "nodes in use: {used}")?;
+    Ok(())
 }
 
 fn ipv4(rt: &HostRuntime) -> anyhow::Result<()> {
     println!(rt; "IPv4, PATRICIA")?;
-    tour!(rt, Ipv4, samples::ipv4()?)
+    tour(rt, &on_three_rows(samples::ipv4()?))
 }
 
 fn ipv6(rt: &HostRuntime) -> anyhow::Result<()> {
     println!(rt; "IPv6, PATRICIA")?;
-    tour!(rt, Ipv6, samples::ipv6()?)
+    tour(rt, &on_three_rows(samples::ipv6()?))
 }
 
 fn main(rt: HostRuntime) -> anyhow::Result<()> {

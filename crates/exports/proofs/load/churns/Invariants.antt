@@ -1,4 +1,0 @@
-use Rattle.exports.proofs.load.churns.Given as goal
-
-abbrev pub invariant-loop : goal.invariant-loop
-invariant-loop g l = g.T.Table.valid l.table
