@@ -1,5 +1,3 @@
-ghost use Rattle.exports.specs.Room.{ListFits, TrieFits};
-
 use crate::load::{Load, put_under, read_addresses, read_routes};
 use crate::tables::answer_all;
 use address::ipv4::Ipv4;
@@ -13,9 +11,7 @@ use std::alloc::{AllocError, Global};
 use trie::node::Node;
 
 // Makes the calls on a fresh sorted list of so many rows, and writes the replies. How many bytes were written; none where memory fails.
-fn on_sorted<A: Address>(heap: Global, rows: usize, calls: &[u8], out: &mut [u8]) -> usize
-    requires { ListFits A.row A.Prefix.row }
-{
+fn on_sorted<A: Address>(heap: Global, rows: usize, calls: &[u8], out: &mut [u8]) -> usize {
     let Ok(mut rows) = vec![in heap; Row::blank(); rows] else {
         return 0;
     };
@@ -24,9 +20,7 @@ fn on_sorted<A: Address>(heap: Global, rows: usize, calls: &[u8], out: &mut [u8]
 }
 
 // Likewise on a fresh PATRICIA of so many nodes.
-fn on_patricia<A: Address>(heap: Global, nodes: usize, calls: &[u8], out: &mut [u8]) -> usize
-    requires { TrieFits A.row A.Prefix.row }
-{
+fn on_patricia<A: Address>(heap: Global, nodes: usize, calls: &[u8], out: &mut [u8]) -> usize {
     let Ok(mut nodes) = vec![in heap; Node::blank(); nodes] else {
         return 0;
     };
@@ -77,9 +71,7 @@ fn under_load<A: Address>(
     held: usize,
     addresses: &[u8],
     load: Load,
-) -> Result<u64, AllocError>
-    requires { TrieFits A.row A.Prefix.row }
-{
+) -> Result<u64, AllocError> {
     let routes = read_routes::<A>(heap, routes)?;
     let addresses = read_addresses::<A>(heap, addresses)?;
     let mut nodes = vec![in heap; Node::blank(); nodes]?;

@@ -21,7 +21,3 @@ order_at rows o j k l h =
     ap (λ r. order (key (at rows j)) r.prefix) (sym (entry_at rows k h))
     ∙ ap (λ r. order r.prefix (get_or (entries rows) k (entry_of unused)).prefix) (sym (entry_at rows j (omega arith)))
     ∙ rising_at (entries rows) (entry_of unused) o.rising j k l (omega (arith, entries_length rows))
-
--- a front has no more than 128 bits
-pub front_min : (n : ℕ) (h : Halves) → front (min n 128) h ≡ front n h
-front_min n h = front_is _ h ∙ ap (λ k. take (min n k) (word h)) (sym (word_length h)) ∙ take_min n (word h) ∙ sym (front_is n h)

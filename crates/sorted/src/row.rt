@@ -27,14 +27,11 @@ impl Row {
     }
 
     // How the row stands to the prefix.
-    #[tactic(auto, using(crate::proofs::Orderly::front_min))]
     pub(crate) fn order(self, prefix: Front) -> Ordering
         requires { prefix.len ≤ 128 }
         ensures { stands result ≡ order (key self) (front prefix.len prefix.bits) }
     {
-        let len = self.prefix.len.min(128); // a front has no more bits
-        let own = Front { len, ..self.prefix };
-        own.order(prefix)
+        self.prefix.capped().order(prefix)
     }
 
     // Whether the row's prefix covers the address and is no longer than the bound.

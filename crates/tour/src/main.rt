@@ -2,8 +2,6 @@
 // then another through stacks of layers in three orders, and prints the filled slots of their caches after each call.
 #![tactic(auto)]
 
-ghost use Rattle.tour_support.specs.Room.{ListFits};
-
 mod stacks;
 
 use address::kind::Address;
@@ -22,7 +20,6 @@ fn tour<A, P>(rt: &HostRuntime, at: Samples<A, P>, calls: &[Call<A, P>]) -> anyh
 where
     A: Address<Prefix = P> + fmt::Display,
     P: Copy + fmt::Display,
-    requires { ListFits A.row P.row }
 {
     print_refused(rt, at.inside, A::WIDTH.saturating_add(1))?;
     print_refused(rt, at.inside, 8)?;

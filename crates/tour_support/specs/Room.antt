@@ -1,23 +1,12 @@
--- What the programs' tables, and the layers over them, take in memory.
+-- What stacks of layers take in memory.
 use Rattle.std.specs.Borrow.{RattleType}
 use Rattle.std.specs.Mem.{FitsInMemory}
-use denote.Signature.{static_lft}
 use Rattle.filter.specs.contracts.policy.Policy as a_policy
 use Rattle.filter.specs.contracts.layer.Filter as a_filter
 use Rattle.cache.specs.contracts.cache.Cache as a_cache
 use Rattle.fall_through.specs.contracts.layer.FallThrough as a_fall_through
-use Rattle.sorted.specs.contracts.list.Sorted as sorted_list
-use Rattle.patricia.specs.contracts.patricia.Patricia as patricia_table
 
--- the type of a sorted list over addresses A, with prefixes P, is no larger than memory, as is so at each kind
-abbrev pub ListFits : (A P : RattleType) → Type 0
-ListFits A P = FitsInMemory (sorted_list.the_row static_lft A P)
-
--- and that of a PATRICIA
-abbrev pub TrieFits : (A P : RattleType) → Type 0
-TrieFits A P = FitsInMemory (patricia_table.the_row static_lft A P)
-
--- the types of a filter over U, of a fall-through from it to L, and of a cache over that, likewise
+-- the types of a policy, of a filter over U, of a fall-through from it to L, and of a cache over that are no larger than memory, as is so at each kind
 abbrev pub CacheOnTopFits : (U L A P : RattleType) → Type 0
 CacheOnTopFits U L A P =
     let filtered = a_filter.the_row U A P in

@@ -2,8 +2,6 @@
 // is a sorted list.
 #![tactic(auto)]
 
-ghost use Rattle.tour_support.specs.Room.{TrieFits};
-
 mod stacks;
 
 use address::kind::Address;
@@ -20,7 +18,6 @@ fn tour<A, P>(rt: &HostRuntime, calls: &[Call<A, P>]) -> anyhow::Result<()>
 where
     A: Address<Prefix = P> + fmt::Display,
     P: Copy + fmt::Display,
-    requires { TrieFits A.row P.row }
 {
     let mut nodes = [Node::blank(); 3];
     let mut table = Patricia::<A>::new(&mut nodes);
