@@ -126,7 +126,7 @@ pub fn insert(ns: &mut [Node], used: usize, room: usize, key: Node, hop: Halves)
     requires some { key.hop ≡ Some hop }
     ensures { Announced ns.old used room (prefix_of key) hop ns.new result }
 {
-    let plan = decide(&ns[..used], room, &key, hop)?; // no room: nothing is written
+    let plan = decide(ns, used, room, &key, hop)?; // no room: nothing is written
     Some(put(ns, used, room, key, hop, plan))
 }
 

@@ -88,15 +88,15 @@ fn has_room(used: usize, room: usize, more: usize) -> bool
 }
 
 // How the route of `key` to the hop goes into the trie, or none where there is no room for it.
-pub fn decide(ns: &[Node], room: usize, key: &Node, hop: Halves) -> Option<Plan>
-    requires trie { Compressed ns.now (length ns.now) }
-    requires fits { length ns.now ≤ room }
+pub fn decide(ns: &[Node], used: usize, room: usize, key: &Node, hop: Halves) -> Option<Plan>
+    requires trie { Compressed ns.now used }
+    requires fits { used ≤ room }
     requires short { key.now.prefix.len ≤ 128 }
     requires some { key.now.hop ≡ Some hop }
-    ensures { Planned ns.now (length ns.now) room key.now hop result }
+    ensures { Planned ns.now used room key.now hop result }
 {
-    let plan = suited(ns, key);
-    if has_room(ns.len(), room, plan.wanted()) {
+    let plan = suited(&ns[..used], key);
+    if has_room(used, room, plan.wanted()) {
         Some(plan)
     } else {
         None

@@ -9,7 +9,8 @@ use bits::halves::Halves;
 pub fn child(node: &Node, side: bool) -> Option<u16>
     ensures { result ≡ link side node.now }
 {
-    if side { node.right } else { node.left }
+    let link = if side { &node.right } else { &node.left };
+    *link
 }
 
 // The node with another link on that side.
