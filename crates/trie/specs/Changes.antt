@@ -24,7 +24,7 @@ swapped h l j = cond (j == h) l (cond (j == l) h j)
 abbrev pub bare : Node → Node
 bare n = record { prefix = n.prefix; hop = n.hop; left = None; right = None }
 
--- the nodes of slots h and l have changed places, and the links follow
+-- the nodes of slots h and l have changed places, and the links follow; none is to a slot 65,535
 pub record Moved (ns ms : List Node) (u h l : ℕ) : Type 0 where
   pub long : length ms ≡ length ns
   pub nodes : (j : ℕ) → j < u → bare (at ms j) ≡ bare (at ns (swapped h l j))

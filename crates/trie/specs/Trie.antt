@@ -26,7 +26,8 @@ Under a b = Begins a.prefix.len (node_bit a) b.prefix.len (node_bit b)
 abbrev pub Beyond : Bool → Node → Node → Type 0
 Beyond s a b = Leads s a.prefix.len (node_bit a) b.prefix.len (node_bit b)
 
--- the first u slots are a trie with its root in slot 0: each link leads to the next node beneath on its side, none is to a slot 65,535, and no prefix stands twice
+-- the first u slots are a trie with its root in slot 0: each link leads to the next node beneath on its side, none to a slot 65,535,
+-- and no prefix stands twice
 pub record Trie (f : ℕ → Node) (u : ℕ) : Type 0 where
   pub few : u ≤ 65535
   pub short : (i : ℕ) → i < u → (f i).prefix.len ≤ 128
