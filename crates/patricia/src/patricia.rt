@@ -90,7 +90,8 @@ impl<'a, A: Address> OnePlane for Patricia<'a, A> {
     fn insert(&mut self, prefix: A::Prefix, hop: A) -> Result<(), Refusal> {
         let halves = hop.to_halves();
         let key = key_of::<A>(prefix, Some(halves));
-        let room = room_in(self.nodes.len());
+        let nodes = self.nodes.len();
+        let room = room_in(nodes);
         self.used = insert(self.nodes, self.used, room, key, halves).ok_or(Refusal::NoRoom)?;
         Ok(())
     }
