@@ -1,5 +1,5 @@
-ghost use Rattle.std.specs.Prelude.{◌≡◌, ◌<◌, Some};
-ghost use Rattle.address.specs.Text.{digit16, group, groups};
+ghost use Rattle.std.specs.Prelude.{◌<◌, Some};
+ghost use Rattle.address.specs.Text.{group, groups};
 
 use std::fmt;
 

@@ -1,4 +1,4 @@
-// Arithmetic on halves: each function is an equation over numbers. What it means for bit strings, `words` says.
+// Arithmetic on halves: each function is an equation over numbers. What it means for bit strings, `Halves` and `Front` say.
 ghost use Rattle.std.specs.Prelude.{◌≡◌, ◌-◌, ◌<◌, ◌≤◌};
 ghost use Rattle.bits.specs.Halves.{stands};
 ghost use Rattle.bits.specs.Arithmetic.{bit_of, shared, top, cut, uncut, agree, settled};

@@ -1,8 +1,8 @@
 use crate::bytes::{HALVES, halves_in};
 use address::kind::Address;
 use address::refusal::PrefixRefusal;
-use bits::halves::Halves;
 use bits::front::Front;
+use bits::halves::Halves;
 use table::calls::{Call, Granted, Reply};
 
 // How many bytes a call takes: what is asked (0 announce, 1 withdraw, 2 fetch, anything else lookup), the length or the bound, two bytes
