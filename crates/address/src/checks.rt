@@ -7,6 +7,7 @@ use bits::front::Front;
 
 impl PrefixRefusal {
     // The number by which the refusal is reported.
+    // A method and no `From`: it is a fact about the refusal, which the refusal does not turn into.
     pub fn number(self) -> u8
         ensures { result ≡ number self }
     {

@@ -11,6 +11,7 @@ pub struct Ipv4 {
 }
 
 // A prefix of 32-bit addresses: nothing is set beyond its length.
+// A rule of the project: each address kind has a prefix type of its own, so these types are not one over the kind.
 #[derive(Clone, Copy, PartialEq, Eq, Debug)]
 pub struct Prefix4 {
     address: Ipv4,
@@ -37,6 +38,7 @@ impl Prefix4 {
     }
 }
 
+// Made and read by functions as the addresses of std are; a `From` for each number would be no plainer.
 impl Ipv4 {
     pub fn new(bits: u32) -> Ipv4
         ensures { result.bits ≡ bits }

@@ -13,6 +13,7 @@ pub struct Ipv6 {
 }
 
 // A prefix of 128-bit addresses: nothing is set beyond its length.
+// A rule of the project: each address kind has a prefix type of its own, so these types are not one over the kind.
 #[derive(Clone, Copy, PartialEq, Eq, Debug)]
 pub struct Prefix6 {
     address: Ipv6,
@@ -40,6 +41,7 @@ impl Prefix6 {
     }
 }
 
+// Made and read by functions as the addresses of std are; a `From` for each number would be no plainer.
 impl Ipv6 {
     pub fn new(hi: u64, lo: u64) -> Ipv6
         ensures { (result.hi ≡ hi) × (result.lo ≡ lo) }

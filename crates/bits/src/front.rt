@@ -8,6 +8,7 @@ use super::halves::Halves;
 use std::cmp::Ordering;
 
 // The first `len` bits of an address, as of a prefix; what its halves hold beyond those does not count.
+// That `len` is at most 128 is no ghost field: borrowed rows and nodes hold fronts, whatever was written there before.
 #[derive(Clone, Copy, PartialEq, Eq, Debug)]
 pub struct Front {
     pub bits: Halves,

@@ -10,6 +10,7 @@ use table::calls::Refusal;
 use table::interface::Table;
 
 // A table with a destination cache over it, of which the first `count` slots are used.
+// A rule of the project: no heap, so the slots are an array of the cache's own, with the number that is used beside it.
 #[derive(Drop)]
 pub struct Cache<T: Table> {
     inner: T,
@@ -59,6 +60,7 @@ impl<T: Table> Cache<T> {
     }
 }
 
+// Each layer passes on itself what it leaves alone: a default in the interface would have no table below to call.
 impl<T: Table> Table for Cache<T> {
     type Addr = T::Addr;
 

@@ -28,6 +28,7 @@ fn on_patricia<A: Address>(heap: Global, nodes: usize, calls: &[u8], out: &mut [
     answer_all(&mut table, calls, out)
 }
 
+// The C interface: a function for each table and kind.
 #[unsafe(no_mangle)]
 pub extern "C" fn sorted_ipv4(heap: Global, rows: usize, calls: &[u8], out: &mut [u8]) -> usize {
     on_sorted::<Ipv4>(heap, rows, calls, out)

@@ -10,6 +10,7 @@ pub struct TooManyPlanes<U, L> {
 
 impl<U, L> TooManyPlanes<U, L> {
     // The number under which the refusal is reported.
+    // A method and no `From`: it is a fact about the refusal, which the refusal does not turn into.
     pub fn number(&self) -> u8
         ensures { result ≡ number self.now }
     {

@@ -20,6 +20,7 @@ pub struct Filter<T: Table> {
     policy: Policy<T::Addr>,
 }
 
+// Each layer passes on itself what it leaves alone: a default in the interface would have no table below to call.
 impl<T: Table> Table for Filter<T> {
     type Addr = T::Addr;
 

@@ -23,6 +23,7 @@ pub enum PolicyRefusal {
 
 impl PolicyRefusal {
     // The number under which the refusal is reported.
+    // A method and no `From`: it is a fact about the refusal, which the refusal does not turn into.
     pub fn number(self) -> u8
         ensures { result ≡ (refusal self).0 }
     {
@@ -34,6 +35,7 @@ impl PolicyRefusal {
 }
 
 // A policy: its rules in order, up to the first empty place.
+// A rule of the project: no heap, so the rules stand in an array of the policy's own.
 #[derive(Drop)]
 pub struct Policy<A: Address> {
     pub(crate) rules: [Option<Entry>; MOST_RULES],

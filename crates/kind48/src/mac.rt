@@ -13,6 +13,7 @@ pub struct Mac48 {
 }
 
 // A prefix of 48-bit addresses: nothing is set beyond its length.
+// A rule of the project: each address kind has a prefix type of its own, so these types are not one over the kind.
 #[derive(Clone, Copy, PartialEq, Eq, Debug)]
 pub struct Prefix48 {
     address: Mac48,

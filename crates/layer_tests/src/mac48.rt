@@ -7,8 +7,8 @@ use kind48::mac::{Mac48, Prefix48};
 use minimal::one_route::OneRoute;
 use std::test::Fail;
 use table::calls::Granted::{Done, Found, Holds};
-use table::calls::Refusal;
-use test_support::steps::{announce, check, fetch, lookup, withdraw};
+use table::calls::{Call, Refusal};
+use test_support::steps::check;
 use test_support::values::{join, mac, policy};
 
 // A policy that denies what is beneath the prefix and permits it alone.
@@ -32,17 +32,17 @@ fn stack_at_48_bits(rt: HostRuntime) -> Result<(), Fail> {
     let one = mac(1)?;
     let two = mac(2)?;
     let steps = [
-        (announce(0, narrow, one), Ok(Done)),
-        (announce(1, all, two), Ok(Done)),
-        (lookup(address, 48), Ok(Found(Some((0, two))))),
-        (fetch(0, narrow), Ok(Holds(Some(one)))),
-        (withdraw(0, narrow), Ok(Done)),
-        (announce(0, wide, one), Ok(Done)),
-        (lookup(address, 48), Ok(Found(Some((8, one))))),
-        (lookup(address, 48), Ok(Found(Some((8, one))))),
-        (lookup(address, 7), Ok(Found(Some((0, two))))),
-        (lookup(address, 49), Err(Refusal::BoundTooLong)),
-        (fetch(2, all), Err(Refusal::NoPlane)),
+        (Call::announce(0, narrow, one), Ok(Done)),
+        (Call::announce(1, all, two), Ok(Done)),
+        (Call::lookup(address, 48), Ok(Found(Some((0, two))))),
+        (Call::fetch(0, narrow), Ok(Holds(Some(one)))),
+        (Call::withdraw(0, narrow), Ok(Done)),
+        (Call::announce(0, wide, one), Ok(Done)),
+        (Call::lookup(address, 48), Ok(Found(Some((8, one))))),
+        (Call::lookup(address, 48), Ok(Found(Some((8, one))))),
+        (Call::lookup(address, 7), Ok(Found(Some((0, two))))),
+        (Call::lookup(address, 49), Err(Refusal::BoundTooLong)),
+        (Call::fetch(2, all), Err(Refusal::NoPlane)),
     ];
     let upper = Filter::new(OneRoute::<Mac48>::new(), only(wide, 8)?);
     let both = join(upper, OneRoute::<Mac48>::new())?;

@@ -21,6 +21,8 @@ use trie::node::Node;
 use trie::search::{best, find};
 
 // A PATRICIA table in borrowed nodes: the first `used` are one for each route and one for each branch, the root in slot 0.
+// A rule of the project: the nodes are borrowed, so their number in use stands beside them, and that they are well-formed is a premise.
+// It is made and given back as the sorted list is; one type for both would name the two meanings of storage in each of its clauses.
 #[derive(Drop)]
 pub struct Patricia<'a, A: Address> {
     nodes: &'a mut [Node],

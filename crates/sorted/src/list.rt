@@ -19,6 +19,7 @@ use table::calls::Refusal;
 use table::one_plane::OnePlane;
 
 // A sorted list of routes in borrowed rows: the first `used` hold one route each, in rising order of their prefixes.
+// A rule of the project: the rows are borrowed, so their number in use stands beside them, and that they are well-formed is a premise.
 #[derive(Drop)]
 pub struct Sorted<'a, A: Address> {
     rows: &'a mut [Row],
@@ -201,8 +202,12 @@ impl<'a, A: Address> OnePlane for Sorted<'a, A> {
     }
 
     fn longest(&self, address: A, bound: u8) -> Option<(u8, A)> {
+        let sought = Front {
+            bits: address.to_halves(),
+            len: bound,
+        };
         let rows = self.in_use();
-        let row = rows[best(rows, address.to_halves(), bound)?];
+        let row = rows[best(rows, sought)?];
         Some((row.prefix.len, next_hop(row)))
     }
 }

@@ -15,7 +15,7 @@ pub struct Row {
 }
 
 impl Row {
-    // A row to make an array of.
+    // A row to make an array of; the node of a trie has such a maker too, of its own fields.
     pub fn blank() -> Row
         ensures { result ≡ unused }
     {
@@ -34,11 +34,11 @@ impl Row {
         self.prefix.capped().order(prefix)
     }
 
-    // Whether the row's prefix covers the address and is no longer than the bound.
-    pub(crate) fn matches(self, address: Halves, bound: u8) -> bool
-        requires { bound ≤ 128 }
-        ensures { result ≡ (nat_le self.prefix.len bound && covers (key self) (word address)) }
+    // Whether the row's prefix is that of the bits sought, or begins them.
+    pub(crate) fn matches(self, sought: Front) -> bool
+        requires { sought.len ≤ 128 }
+        ensures { result ≡ (nat_le self.prefix.len sought.len && covers (key self) (word sought.bits)) }
     {
-        self.prefix.len <= bound && self.prefix.covers(address)
+        self.prefix.len <= sought.len && self.prefix.covers(sought.bits)
     }
 }

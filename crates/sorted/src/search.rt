@@ -37,27 +37,23 @@ pub fn find(rows: &[Row], prefix: Front) -> Option<Row>
     Some(rows[i])
 }
 
-// The last of the rows that covers the address and is no longer than the bound.
-fn last_match(rows: &[Row], address: Halves, bound: u8) -> Option<usize>
-    requires { bound ≤ 128 }
-    ensures { LastMatch rows.now (word address) bound result }
+// The last of the rows that is that of the bits sought, or begins them.
+fn last_match(rows: &[Row], sought: Front) -> Option<usize>
+    requires { sought.len ≤ 128 }
+    ensures { LastMatch rows.now (word sought.bits) sought.len result }
 {
-    rows.iter().rposition(|row| row.matches(address, bound))
+    rows.iter().rposition(|row| row.matches(sought))
 }
 
-// The last of the rows that covers the address and is no longer than the bound: no row past the place of the address's first bits does.
+// The last of the rows that is that of the bits sought, or begins them: no row past their place does.
 #[tactic(auto, using(crate::proofs::Reaching::reaches_held, crate::proofs::Reaching::reaches_absent))]
-pub fn best(rows: &[Row], address: Halves, bound: u8) -> Option<usize>
+pub fn best(rows: &[Row], sought: Front) -> Option<usize>
     requires rising { InOrder rows.now }
-    requires short { bound ≤ 128 }
-    ensures { LastMatch rows.now (word address) bound result }
+    requires short { sought.len ≤ 128 }
+    ensures { LastMatch rows.now (word sought.bits) sought.len result }
 {
-    let first = Front {
-        bits: address,
-        len: bound,
-    };
-    match locate(rows, first) {
-        Ok(i) => last_match(&rows[..=i], address, bound),
-        Err(i) => last_match(&rows[..i], address, bound),
+    match locate(rows, sought) {
+        Ok(i) => last_match(&rows[..=i], sought),
+        Err(i) => last_match(&rows[..i], sought),
     }
 }

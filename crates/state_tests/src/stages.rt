@@ -7,9 +7,8 @@ use minimal::one_route::OneRoute;
 use states::loading::Loading;
 use std::test::Fail;
 use table::calls::Granted::{Done, Found};
-use table::calls::{Exchange, Refusal};
+use table::calls::{Call, Exchange, Refusal};
 use table::interface::Table;
-use test_support::steps::{announce, lookup, withdraw};
 use test_support::values::{in_slot, ip, policy};
 
 // A next hop.
@@ -62,11 +61,11 @@ fn runs(rt: HostRuntime) -> Result<(), Fail> {
     let ten = ip(0x0a00_0000).prefix(8)?;
     let address = ip(INSIDE);
     let steps = [
-        (lookup(address, 32), Ok(Found(None))),
-        (announce(0, ten, ip(HOP)), Ok(Done)),
-        (lookup(address, 32), Ok(Found(Some((8, ip(HOP)))))),
-        (lookup(address, 7), Ok(Found(None))),
-        (withdraw(1, ten), Err(Refusal::NoPlane)),
+        (Call::lookup(address, 32), Ok(Found(None))),
+        (Call::announce(0, ten, ip(HOP)), Ok(Done)),
+        (Call::lookup(address, 32), Ok(Found(Some((8, ip(HOP)))))),
+        (Call::lookup(address, 7), Ok(Found(None))),
+        (Call::withdraw(1, ten), Err(Refusal::NoPlane)),
     ];
     let table: OneRoute<Ipv4> = OneRoute::new();
     let mut forwarding = Loading::new(table).open();

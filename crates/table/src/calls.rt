@@ -1,5 +1,6 @@
 ghost use Rattle.std.specs.Prelude.{◌≡◌};
 ghost use Rattle.table.specs.Meaning.{number};
+ghost use Rattle.table.specs.declared.calls.Call.TheVariants.{Announce, Withdraw, Fetch, Lookup};
 
 pub mod text;
 
@@ -18,6 +19,7 @@ pub enum Refusal {
 
 impl Refusal {
     // The number under which the refusal is reported.
+    // A method and no `From`: it is a fact about the refusal, which the refusal does not turn into.
     pub fn number(self) -> u8
         ensures { result ≡ number self }
     {
@@ -37,6 +39,32 @@ pub enum Call<A, P> {
     Withdraw { plane: u16, prefix: P },
     Fetch { plane: u16, prefix: P },
     Lookup { address: A, bound: u8 },
+}
+
+impl<A, P> Call<A, P> {
+    pub fn announce(plane: u16, prefix: P, hop: A) -> Call<A, P>
+        ensures { result ≡ Announce plane prefix hop }
+    {
+        Call::Announce { plane, prefix, hop }
+    }
+
+    pub fn withdraw(plane: u16, prefix: P) -> Call<A, P>
+        ensures { result ≡ Withdraw plane prefix }
+    {
+        Call::Withdraw { plane, prefix }
+    }
+
+    pub fn fetch(plane: u16, prefix: P) -> Call<A, P>
+        ensures { result ≡ Fetch plane prefix }
+    {
+        Call::Fetch { plane, prefix }
+    }
+
+    pub fn lookup(address: A, bound: u8) -> Call<A, P>
+        ensures { result ≡ Lookup address bound }
+    {
+        Call::Lookup { address, bound }
+    }
 }
 
 // What an accepted call gives.

@@ -9,8 +9,8 @@ use sorted::row::Row;
 use std::alloc::Global;
 use std::test::Fail;
 use table::calls::Granted::{Done, Found, Holds};
-use table::calls::Refusal;
-use test_support::steps::{Step, announce, check, fetch, lookup, withdraw};
+use table::calls::{Call, Refusal};
+use test_support::steps::{Step, check};
 use test_support::values::{in_slot, ip, join, policy};
 
 // Next hops.
@@ -28,17 +28,17 @@ fn falls_through(rt: HostRuntime) -> Result<(), Fail> {
     let all = ip(0).prefix(0)?;
     let address = ip(0x0a01_0203);
     let steps = [
-        (announce(0, ten, ip(A)), Ok(Done)),
-        (announce(1, one, ip(B)), Ok(Done)),
-        (announce(1, all, ip(C)), Ok(Done)),
-        (announce(2, all, ip(C)), Err(Refusal::NoPlane)),
-        (lookup(address, 32), Ok(Found(Some((8, ip(A)))))),
-        (lookup(address, 4), Ok(Found(Some((0, ip(C)))))),
-        (fetch(1, one), Ok(Holds(Some(ip(B))))),
-        (withdraw(1, ten), Err(Refusal::NotHeld)),
-        (withdraw(0, ten), Ok(Done)),
-        (lookup(address, 32), Ok(Found(Some((16, ip(B)))))),
-        (lookup(address, 33), Err(Refusal::BoundTooLong)),
+        (Call::announce(0, ten, ip(A)), Ok(Done)),
+        (Call::announce(1, one, ip(B)), Ok(Done)),
+        (Call::announce(1, all, ip(C)), Ok(Done)),
+        (Call::announce(2, all, ip(C)), Err(Refusal::NoPlane)),
+        (Call::lookup(address, 32), Ok(Found(Some((8, ip(A)))))),
+        (Call::lookup(address, 4), Ok(Found(Some((0, ip(C)))))),
+        (Call::fetch(1, one), Ok(Holds(Some(ip(B))))),
+        (Call::withdraw(1, ten), Err(Refusal::NotHeld)),
+        (Call::withdraw(0, ten), Ok(Done)),
+        (Call::lookup(address, 32), Ok(Found(Some((16, ip(B)))))),
+        (Call::lookup(address, 33), Err(Refusal::BoundTooLong)),
     ];
     let mut rows = [Row::blank(); 4];
     let mut more = [Row::blank(); 4];
@@ -56,12 +56,12 @@ fn goes_on_below_denied_routes(rt: HostRuntime) -> Result<(), Fail> {
     let all = ip(0).prefix(0)?;
     let address = ip(0x0a01_0203);
     let steps = [
-        (announce(0, ten, ip(A)), Ok(Done)),
-        (announce(0, one, ip(B)), Ok(Done)),
-        (lookup(address, 32), Ok(Found(Some((8, ip(A)))))),
-        (fetch(0, one), Ok(Holds(Some(ip(B))))),
-        (withdraw(0, ten), Ok(Done)),
-        (lookup(address, 32), Ok(Found(None))),
+        (Call::announce(0, ten, ip(A)), Ok(Done)),
+        (Call::announce(0, one, ip(B)), Ok(Done)),
+        (Call::lookup(address, 32), Ok(Found(Some((8, ip(A)))))),
+        (Call::fetch(0, one), Ok(Holds(Some(ip(B))))),
+        (Call::withdraw(0, ten), Ok(Done)),
+        (Call::lookup(address, 32), Ok(Found(None))),
     ];
     let rules = [
         Rule {
@@ -110,11 +110,11 @@ fn fills_slots(rt: HostRuntime) -> Result<(), Fail> {
     let y = ip(0x0a00_0005);
     let z = ip(0x0b00_0002);
     let looks = [
-        (lookup(x, 32), Ok(Found(None))),
-        (lookup(z, 32), Ok(Found(None))),
-        (lookup(y, 31), Ok(Found(None))),
-        (lookup(x, 33), Err(Refusal::BoundTooLong)),
-        (withdraw(0, ten), Err(Refusal::NotHeld)),
+        (Call::lookup(x, 32), Ok(Found(None))),
+        (Call::lookup(z, 32), Ok(Found(None))),
+        (Call::lookup(y, 31), Ok(Found(None))),
+        (Call::lookup(x, 33), Err(Refusal::BoundTooLong)),
+        (Call::withdraw(0, ten), Err(Refusal::NotHeld)),
     ];
     let heap = rt.alloc();
     check_slots(
@@ -138,12 +138,12 @@ fn fills_slots(rt: HostRuntime) -> Result<(), Fail> {
     )?;
     check_slots(heap, 5000, &looks, &[(1, Some(0x0a00_0001)), (4096, None)])?;
     let changes = [
-        (lookup(x, 32), Ok(Found(None))),
-        (lookup(z, 32), Ok(Found(None))),
-        (announce(0, ten, ip(A)), Ok(Done)),
-        (lookup(x, 32), Ok(Found(Some((8, ip(A)))))),
-        (lookup(x, 32), Ok(Found(Some((8, ip(A)))))),
-        (lookup(y, 32), Ok(Found(Some((8, ip(A)))))),
+        (Call::lookup(x, 32), Ok(Found(None))),
+        (Call::lookup(z, 32), Ok(Found(None))),
+        (Call::announce(0, ten, ip(A)), Ok(Done)),
+        (Call::lookup(x, 32), Ok(Found(Some((8, ip(A)))))),
+        (Call::lookup(x, 32), Ok(Found(Some((8, ip(A)))))),
+        (Call::lookup(y, 32), Ok(Found(Some((8, ip(A)))))),
     ];
     check_slots(
         heap,
@@ -159,9 +159,9 @@ fn hidden_updates_empty_slots(rt: HostRuntime) -> Result<(), Fail> {
     let ten = ip(0x0a00_0000).prefix(8)?;
     let address = ip(0x0a00_0001);
     let steps = [
-        (announce(0, ten, ip(A)), Ok(Done)),
-        (lookup(address, 32), Ok(Found(Some((8, ip(A)))))),
-        (announce(1, ten, ip(B)), Ok(Done)),
+        (Call::announce(0, ten, ip(A)), Ok(Done)),
+        (Call::lookup(address, 32), Ok(Found(Some((8, ip(A)))))),
+        (Call::announce(1, ten, ip(B)), Ok(Done)),
     ];
     let upper: OneRoute<Ipv4> = OneRoute::new();
     let lower: OneRoute<Ipv4> = OneRoute::new();

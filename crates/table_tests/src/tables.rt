@@ -8,8 +8,8 @@ use sorted::list::Sorted;
 use sorted::row::Row;
 use std::test::Fail;
 use table::calls::Granted::{Done, Found, Holds};
-use table::calls::Refusal;
-use test_support::steps::{Step, announce, check, fetch, lookup, withdraw};
+use table::calls::{Call, Refusal};
+use test_support::steps::{Step, check};
 use test_support::values::{ip, mac};
 use trie::node::Node;
 
@@ -32,38 +32,47 @@ fn calls_and_replies<A: Address>(s: &Sample<A>) -> [Step<A, A::Prefix>; 27] {
     let width = A::WIDTH;
     [
         // an empty table
-        (lookup(s.inside, width), Ok(Found(None))),
-        (fetch(0, s.wide), Ok(Holds(None))),
-        (withdraw(0, s.wide), Err(Refusal::NotHeld)),
+        (Call::lookup(s.inside, width), Ok(Found(None))),
+        (Call::fetch(0, s.wide), Ok(Holds(None))),
+        (Call::withdraw(0, s.wide), Err(Refusal::NotHeld)),
         // an absent plane comes first, whatever else is wrong
-        (announce(1, s.wide, s.one), Err(Refusal::NoPlane)),
-        (withdraw(1, s.wide), Err(Refusal::NoPlane)),
-        (fetch(65535, s.wide), Err(Refusal::NoPlane)),
+        (Call::announce(1, s.wide, s.one), Err(Refusal::NoPlane)),
+        (Call::withdraw(1, s.wide), Err(Refusal::NoPlane)),
+        (Call::fetch(65535, s.wide), Err(Refusal::NoPlane)),
         // the longest match and its bounds
-        (announce(0, s.narrow, s.two), Ok(Done)),
-        (announce(0, s.wide, s.one), Ok(Done)),
-        (lookup(s.inside, width), Ok(Found(Some((16, s.two))))),
-        (lookup(s.inside, 16), Ok(Found(Some((16, s.two))))),
-        (lookup(s.inside, 15), Ok(Found(Some((8, s.one))))),
-        (lookup(s.inside, 7), Ok(Found(None))),
-        (lookup(s.inside, 0), Ok(Found(None))),
-        (lookup(s.inside, width + 1), Err(Refusal::BoundTooLong)),
-        (lookup(s.outside, width), Ok(Found(None))),
+        (Call::announce(0, s.narrow, s.two), Ok(Done)),
+        (Call::announce(0, s.wide, s.one), Ok(Done)),
+        (Call::lookup(s.inside, width), Ok(Found(Some((16, s.two))))),
+        (Call::lookup(s.inside, 16), Ok(Found(Some((16, s.two))))),
+        (Call::lookup(s.inside, 15), Ok(Found(Some((8, s.one))))),
+        (Call::lookup(s.inside, 7), Ok(Found(None))),
+        (Call::lookup(s.inside, 0), Ok(Found(None))),
+        (
+            Call::lookup(s.inside, width + 1),
+            Err(Refusal::BoundTooLong),
+        ),
+        (Call::lookup(s.outside, width), Ok(Found(None))),
         // length 0, and a full table
-        (announce(0, s.all, s.two), Ok(Done)),
-        (lookup(s.outside, 0), Ok(Found(Some((0, s.two))))),
-        (announce(0, s.host, s.one), Err(Refusal::NoRoom)),
-        (fetch(0, s.host), Ok(Holds(None))),
+        (Call::announce(0, s.all, s.two), Ok(Done)),
+        (Call::lookup(s.outside, 0), Ok(Found(Some((0, s.two))))),
+        (Call::announce(0, s.host, s.one), Err(Refusal::NoRoom)),
+        (Call::fetch(0, s.host), Ok(Holds(None))),
         // a held prefix takes another hop, in a full table too
-        (announce(0, s.narrow, s.one), Ok(Done)),
-        (fetch(0, s.narrow), Ok(Holds(Some(s.one)))),
+        (Call::announce(0, s.narrow, s.one), Ok(Done)),
+        (Call::fetch(0, s.narrow), Ok(Holds(Some(s.one)))),
         // room again, and length W
-        (withdraw(0, s.wide), Ok(Done)),
-        (withdraw(0, s.wide), Err(Refusal::NotHeld)),
-        (announce(0, s.host, s.two), Ok(Done)),
-        (lookup(s.inside, width), Ok(Found(Some((width, s.two))))),
-        (lookup(s.inside, width - 1), Ok(Found(Some((16, s.one))))),
-        (lookup(s.outside, width), Ok(Found(Some((0, s.two))))),
+        (Call::withdraw(0, s.wide), Ok(Done)),
+        (Call::withdraw(0, s.wide), Err(Refusal::NotHeld)),
+        (Call::announce(0, s.host, s.two), Ok(Done)),
+        (
+            Call::lookup(s.inside, width),
+            Ok(Found(Some((width, s.two)))),
+        ),
+        (
+            Call::lookup(s.inside, width - 1),
+            Ok(Found(Some((16, s.one)))),
+        ),
+        (Call::lookup(s.outside, width), Ok(Found(Some((0, s.two))))),
     ]
 }
 

@@ -1,5 +1,4 @@
 ghost use Rattle.std.specs.Prelude.{◌≡◌};
-ghost use Rattle.table.specs.declared.calls.Call.TheVariants.{Announce, Withdraw, Fetch, Lookup};
 
 use address::kind::Address;
 use std::alloc::Global;
@@ -11,34 +10,6 @@ use table::run::run;
 
 // A call with the reply that is due.
 pub type Step<A, P> = (Call<A, P>, Reply<A>);
-
-// An announcement.
-pub fn announce<A, P>(plane: u16, prefix: P, hop: A) -> Call<A, P>
-    ensures { result ≡ Announce plane prefix hop }
-{
-    Call::Announce { plane, prefix, hop }
-}
-
-// A withdrawal.
-pub fn withdraw<A, P>(plane: u16, prefix: P) -> Call<A, P>
-    ensures { result ≡ Withdraw plane prefix }
-{
-    Call::Withdraw { plane, prefix }
-}
-
-// A fetch.
-pub fn fetch<A, P>(plane: u16, prefix: P) -> Call<A, P>
-    ensures { result ≡ Fetch plane prefix }
-{
-    Call::Fetch { plane, prefix }
-}
-
-// A lookup.
-pub fn lookup<A, P>(address: A, bound: u8) -> Call<A, P>
-    ensures { result ≡ Lookup address bound }
-{
-    Call::Lookup { address, bound }
-}
 
 // The calls, with places for their replies.
 fn asked<A: Copy, P: Copy>(

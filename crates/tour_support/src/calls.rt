@@ -2,26 +2,6 @@ use crate::samples::Samples;
 use address::kind::Address;
 use table::calls::Call;
 
-// A call to announce the prefix.
-fn announce<A, P>(plane: u16, prefix: P, hop: A) -> Call<A, P> {
-    Call::Announce { plane, prefix, hop }
-}
-
-// A call to withdraw it.
-fn withdraw<A, P>(plane: u16, prefix: P) -> Call<A, P> {
-    Call::Withdraw { plane, prefix }
-}
-
-// A call to fetch it.
-fn fetch<A, P>(plane: u16, prefix: P) -> Call<A, P> {
-    Call::Fetch { plane, prefix }
-}
-
-// A call to look the address up.
-fn lookup<A, P>(address: A, bound: u8) -> Call<A, P> {
-    Call::Lookup { address, bound }
-}
-
 // Calls on a table of three rows: two routes, one beneath the other, and lookups at several bounds; then what a full table takes and
 // refuses, and what it takes after a withdrawal.
 pub fn on_three_rows<A, P>(at: Samples<A, P>) -> [Call<A, P>; 20]
@@ -31,26 +11,26 @@ where
 {
     let width = A::WIDTH;
     [
-        lookup(at.inside, width),
-        announce(0, at.wide, at.first),
-        announce(0, at.narrow, at.second),
-        lookup(at.inside, width),
-        lookup(at.inside, A::len(at.narrow).saturating_sub(1)),
-        lookup(at.inside, 0),
-        announce(0, at.all, at.first),
-        lookup(at.inside, 0),
-        lookup(at.inside, width.saturating_add(1)),
-        lookup(at.outside, width),
-        announce(0, at.host, at.second),
-        announce(0, at.narrow, at.first),
-        fetch(0, at.narrow),
-        fetch(0, at.host),
-        announce(1, at.host, at.second),
-        withdraw(0, at.host),
-        withdraw(0, at.wide),
-        announce(0, at.host, at.second),
-        lookup(at.inside, width),
-        fetch(0, at.wide),
+        Call::lookup(at.inside, width),
+        Call::announce(0, at.wide, at.first),
+        Call::announce(0, at.narrow, at.second),
+        Call::lookup(at.inside, width),
+        Call::lookup(at.inside, A::len(at.narrow).saturating_sub(1)),
+        Call::lookup(at.inside, 0),
+        Call::announce(0, at.all, at.first),
+        Call::lookup(at.inside, 0),
+        Call::lookup(at.inside, width.saturating_add(1)),
+        Call::lookup(at.outside, width),
+        Call::announce(0, at.host, at.second),
+        Call::announce(0, at.narrow, at.first),
+        Call::fetch(0, at.narrow),
+        Call::fetch(0, at.host),
+        Call::announce(1, at.host, at.second),
+        Call::withdraw(0, at.host),
+        Call::withdraw(0, at.wide),
+        Call::announce(0, at.host, at.second),
+        Call::lookup(at.inside, width),
+        Call::fetch(0, at.wide),
     ]
 }
 
@@ -62,19 +42,19 @@ where
 {
     let width = A::WIDTH;
     [
-        announce(0, at.wide, at.first),
-        announce(0, at.narrow, at.second),
-        announce(1, at.narrow, at.second),
-        announce(1, at.all, at.second),
-        lookup(at.inside, width),
-        lookup(at.inside, width),
-        lookup(at.outside, width),
-        lookup(at.inside, 4),
-        withdraw(1, at.wide),
-        withdraw(0, at.wide),
-        lookup(at.inside, width),
-        fetch(0, at.narrow),
-        announce(2, at.host, at.first),
-        lookup(at.inside, width.saturating_add(1)),
+        Call::announce(0, at.wide, at.first),
+        Call::announce(0, at.narrow, at.second),
+        Call::announce(1, at.narrow, at.second),
+        Call::announce(1, at.all, at.second),
+        Call::lookup(at.inside, width),
+        Call::lookup(at.inside, width),
+        Call::lookup(at.outside, width),
+        Call::lookup(at.inside, 4),
+        Call::withdraw(1, at.wide),
+        Call::withdraw(0, at.wide),
+        Call::lookup(at.inside, width),
+        Call::fetch(0, at.narrow),
+        Call::announce(2, at.host, at.first),
+        Call::lookup(at.inside, width.saturating_add(1)),
     ]
 }

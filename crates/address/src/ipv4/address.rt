@@ -21,6 +21,7 @@ fn top_half(x: u64) -> u32
     (x >> 32) as u32
 }
 
+// As that of any kind that is one number: a trait between would have these members again, and no macro may write an impl.
 impl Address for Ipv4 {
     type Prefix = Prefix4;
 

@@ -14,6 +14,7 @@ use address::refusal::PrefixRefusal;
 use bits::front::Front;
 use bits::halves::Halves;
 
+// As that of any kind that is one number: a trait between would have these members again, and no macro may write an impl.
 impl Address for Mac48 {
     type Prefix = Prefix48;
 
