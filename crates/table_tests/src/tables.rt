@@ -6,6 +6,8 @@ use kind48::mac::{Mac48, Prefix48};
 use patricia::patricia::Patricia;
 use sorted::list::Sorted;
 use sorted::row::Row;
+use std::alloc::Global;
+use std::fmt;
 use std::test::Fail;
 use table::calls::Granted::{Done, Found, Holds};
 use table::calls::{Call, Refusal};
@@ -76,18 +78,19 @@ fn calls_and_replies<A: Address>(s: &Sample<A>) -> [Step<A, A::Prefix>; 27] {
     ]
 }
 
-// Runs the calls on a fresh sorted list of three rows, and on a fresh PATRICIA table of three nodes: none of the prefixes part.
-// A macro: in a function over any kind, the size of these tables and of the list of calls stays open (`room`, `array`).
-macro_rules! check_calls {
-    ($rt:expr, $kind:ty, $sample:expr) => {{
-        let steps = calls_and_replies(&$sample);
-        let mut rows = [Row::blank(); 3];
-        let mut list: Sorted<$kind> = Sorted::new(&mut rows);
-        check($rt.alloc(), &mut list, &steps)?;
-        let mut nodes = [Node::blank(); 3];
-        let mut trie: Patricia<$kind> = Patricia::new(&mut nodes);
-        check($rt.alloc(), &mut trie, &steps)
-    }};
+// Runs the calls on a fresh sorted list of three rows, and on a fresh PATRICIA table of three nodes: none of the prefixes part. The calls
+// come from the test: in a function over any kind their size stays open.
+fn check_calls<A, P>(heap: Global, steps: &[Step<A, P>]) -> Result<(), Fail>
+where
+    A: Address<Prefix = P> + PartialEq + fmt::Debug + Drop,
+    P: Copy,
+{
+    let mut rows = [Row::blank(); 3];
+    let mut list = Sorted::<A>::new(&mut rows);
+    check(heap, &mut list, steps)?;
+    let mut nodes = [Node::blank(); 3];
+    let mut trie = Patricia::<A>::new(&mut nodes);
+    check(heap, &mut trie, steps)
 }
 
 #[test]
@@ -103,7 +106,7 @@ fn ipv4_calls(rt: HostRuntime) -> Result<(), Fail> {
         one: ip(0xc000_0201),
         two: ip(0xc000_0202),
     };
-    check_calls!(rt, Ipv4, sample)
+    check_calls(rt.alloc(), &calls_and_replies(&sample))
 }
 
 #[test]
@@ -119,7 +122,7 @@ fn ipv6_calls(rt: HostRuntime) -> Result<(), Fail> {
         one: Ipv6::new(1, 1),
         two: Ipv6::new(1, 2),
     };
-    check_calls!(rt, Ipv6, sample)
+    check_calls(rt.alloc(), &calls_and_replies(&sample))
 }
 
 #[test]
@@ -135,7 +138,7 @@ fn mac48_calls(rt: HostRuntime) -> Result<(), Fail> {
         one: mac(1)?,
         two: mac(2)?,
     };
-    check_calls!(rt, Mac48, sample)
+    check_calls(rt.alloc(), &calls_and_replies(&sample))
 }
 
 // Lengths and bits that make a prefix, and those that do not.

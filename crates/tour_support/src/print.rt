@@ -54,11 +54,8 @@ where
     requires { WellFormed A.Address.WIDTH table.now.used table.now.rows.now }
 {
     println!(rt; "table")?;
-    // by place: with `filter_map` over `table.route`, the size of what the closure holds stays open, and the loop is not covered
-    for i in 0..table.route_count() {
-        if let Some((prefix, hop)) = table.route(i) {
-            println!(rt; "{prefix} via {hop}")?;
-        }
+    for (prefix, hop) in (0..table.route_count()).filter_map(|i| table.route(i)) {
+        println!(rt; "{prefix} via {hop}")?;
     }
     Ok(())
 }
