@@ -103,7 +103,7 @@ fn lookup_all<T: Table>(table: &mut T, addresses: &[T::Addr]) -> u64
     summed(table, addresses.iter(), |table, address| {
         match table.lookup(*address, width) {
             Ok(Some((len, hop))) => u64::from(len).wrapping_add(hop.to_halves().hi),
-            Ok(None) | Err(_) => 0,
+            Ok(None) | Err(_) => 0, // nothing to pass on: both count as nothing
         }
     })
 }

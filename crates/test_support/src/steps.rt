@@ -16,14 +16,14 @@ fn asked<A: Copy, P: Copy>(
     heap: Global,
     steps: &[Step<A, P>],
 ) -> Result<Vec<Exchange<A, P>>, Fail> {
-    let mut list = Vec::new(heap);
-    for step in steps {
-        list.push(Exchange {
+    let exchanges = steps
+        .iter()
+        .map(|step| Exchange {
             call: step.0,
             reply: None,
-        })?;
-    }
-    Ok(list)
+        })
+        .collect::<Vec<_>>(heap)?;
+    Ok(exchanges)
 }
 
 // Holds each reply against the one that is due.

@@ -25,7 +25,7 @@ pub fn mac(bits: u64) -> Result<Mac48, Fail>
     Mac48::new(bits).ok_or_else(|| Fail::new("more than 48 bits"))
 }
 
-// A policy of these rules, which have to be one.
+// A policy of these rules, which have to be one; as in `join`, the error is a test's, where the programs have one of their own.
 pub fn policy<A: Address>(rules: &[Rule<A::Prefix>]) -> Result<Policy<A>, Fail>
     ensures { IfOk result (λ p. checked_policy A.Address.pbits A.Address.WIDTH rules.now ≡ outcome (Ok p)) }
 {

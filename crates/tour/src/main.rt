@@ -29,6 +29,7 @@ where
     print_routes(rt, &table)
 }
 
+// One function for each kind, with the samples of that kind.
 fn ipv4(rt: &HostRuntime) -> anyhow::Result<()> {
     println!(rt; "IPv4")?;
     let at = samples::ipv4()?;

@@ -12,8 +12,7 @@ pub fn print_refused<A: Address + fmt::Display>(
     len: u8,
 ) -> anyhow::Result<()> {
     if let Err(refusal) = address.prefix(len) {
-        let number = refusal.number();
-        println!(rt; "prefix {address}/{len}: refused {number}")?;
+        println!(rt; "prefix {address}/{len}: {refusal}")?;
     }
     Ok(())
 }

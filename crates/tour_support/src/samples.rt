@@ -1,8 +1,6 @@
 use address::ipv4::Ipv4;
 use address::ipv6::Ipv6;
 use address::kind::Address;
-use address::refusal::PrefixRefusal;
-use anyhow::anyhow;
 
 // The prefixes and addresses of one kind that the tour uses.
 #[derive(Clone, Copy)]
@@ -22,10 +20,7 @@ pub struct Samples<A, P> {
 
 // An address and a length that have to make a prefix.
 fn net<A: Address>(address: A, len: u8) -> anyhow::Result<A::Prefix> {
-    address.prefix(len).map_err(|refusal| match refusal {
-        PrefixRefusal::TooLong => anyhow!("the prefix is too long"),
-        PrefixRefusal::StrayBits => anyhow!("the prefix has a bit beyond its length"),
-    })
+    Ok(address.prefix(len)?)
 }
 
 fn dotted(a: u8, b: u8, c: u8, d: u8) -> Ipv4 {

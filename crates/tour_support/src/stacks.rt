@@ -41,7 +41,7 @@ where
     ]
 }
 
-// The policy of rules that have to make one.
+// The policy of rules that have to make one; as in `together`, the error is a program's, where the tests have one of their own.
 pub fn policy<A: Address>(rules: &[Rule<A::Prefix>]) -> anyhow::Result<Policy<A>> {
     Policy::new(rules).map_err(|refusal| match refusal {
         PolicyRefusal::TooManyRules => anyhow!("the policy has too many rules"),

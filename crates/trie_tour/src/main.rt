@@ -27,6 +27,7 @@ where
     Ok(())
 }
 
+// One function for each kind, with the samples of that kind.
 fn ipv4(rt: &HostRuntime) -> anyhow::Result<()> {
     println!(rt; "IPv4, PATRICIA")?;
     tour(rt, &on_three_rows(samples::ipv4()?))
