@@ -6,10 +6,10 @@ use Rattle.std.proofs.lemmas.Bool.{and_parts, eqb-true, eq-eqb}
 use Rattle.bits.specs.Bits.{Bits, covers, equal}
 use Rattle.bits.specs.declared.halves.Halves.{Halves}
 use Rattle.bits.proofs.Fronts.{halves_equal}
-use Rattle.bits.proofs.Orders.{equal_is}
+use Rattle.bits.proofs.Orders.{equal_is, equal_self}
 use Rattle.model.specs.Laws.{Local, Does}
 use Rattle.model.specs.Machine.{Plane, View, Room, Act, Reply, Answer, on}
-use Rattle.model.specs.Slots.{Slot, holds_address, reaches, cleared}
+use Rattle.model.specs.Slots.{Slot, slot, slot_of, in_full, holds_address, hits, reaches, cleared}
 use Rattle.model.specs.Stack.{Stack, cache, AllUpToDate, Described}
 use Rattle.model.proofs.CacheLaws.{slots_left, cache_act, current_acted}
 use Rattle.model.proofs.Steps.{at, step_of, does_of}
@@ -45,6 +45,13 @@ answer_not (Some x) a e = go (equal x.0 a) e
     go : (b : Bool) → None ≡ cond b (Some x.1) None → b ≡ false
     go true h = cc
     go false h = refl
+
+-- a lookup at the largest bound is a hit exactly where its slot holds the address
+pub hit_is : (n : ℕ) (es : List Slot) (a : Bits) (b : ℕ) (w : Answer) → in_full n a b ≡ true → slot es (slot_of n a) ≡ Some (a, w) → hits n es a b ≡ true
+hit_is n es a b w full e = rw (full, e, equal_self a) refl
+
+pub miss_is : (n : ℕ) (es : List Slot) (a : Bits) (b : ℕ) → in_full n a b ≡ true → holds_address (slot es (slot_of n a)) a ≡ false → hits n es a b ≡ false
+miss_is n es a b full m = rw (full, m) refl
 
 -- an accepted act that reaches what the prefix covers empties those slots
 pub update_clears : (act : Act) (p : Bits) → ((a : Bits) → reaches act a ≡ covers p a) → (es : List Slot) → map (emptied p) es ≡ map (cleared act) es

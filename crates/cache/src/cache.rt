@@ -1,6 +1,10 @@
-ghost use Rattle.std.specs.Prelude.{◌≡◌, min, replicate, if◌then◌else◌, None, nat_lt, slice_index_or};
+ghost use Rattle.std.specs.Prelude.{◌≡◌, min, true, false, replicate, is_ok, if◌then◌else◌, Some, None, IfOk, nat_lt, slice_index_or, slice_set};
+ghost use Rattle.model.specs.Laws.{Does};
+ghost use Rattle.model.specs.Machine.{lookup};
+ghost use Rattle.model.specs.Slots.{slot_of, in_full, hits};
 ghost use Rattle.model.specs.Stack.{cache, AllUpToDate};
 ghost use Rattle.model.proofs.CacheLaws.{cache_described, cache_current};
+ghost use Rattle.table.specs.Meaning.{of_lookup};
 ghost use Rattle.cache.specs.Entries.{as_slots, Sized};
 
 use crate::entry::Entry;
@@ -119,7 +123,14 @@ impl<T: Table> Table for Cache<T> {
     }
 
     // At the full width, answered from the slot where it holds the address, else from below, and stored; at a smaller bound passed on.
-    fn lookup(&mut self, address: T::Addr, bound: u8) -> Result<Option<(u8, T::Addr)>, Refusal> {
+    fn lookup(&mut self, address: T::Addr, bound: u8) -> Result<Option<(u8, T::Addr)>, Refusal>
+        requires { ⟦<Cache<T> as Table>⟧.valid self.old }
+        ensures valid { ⟦<Cache<T> as Table>⟧.valid self.new }
+        ensures does { Does ⟦<Cache<T> as Table>⟧.planes ⟦<Cache<T> as Table>⟧.view ⟦<Cache<T> as Table>⟧.room ⟦<Cache<T> as Table>⟧.stack self.old self.new (lookup (T.Addr.Address.bits address) bound) (of_lookup T.Addr.Address.bits result) }
+        ensures refused { is_ok result ≡ false → self.new ≡ self.old }
+        ensures hit { hits self.old.count (as_slots T.Addr.Address.bits self.old.slots) (T.Addr.Address.bits address) bound ≡ true → self.new ≡ self.old }
+        ensures miss { in_full self.old.count (T.Addr.Address.bits address) bound ≡ true → hits self.old.count (as_slots T.Addr.Address.bits self.old.slots) (T.Addr.Address.bits address) bound ≡ false → IfOk result (λ x. self.new.slots ≡ slice_set self.old.slots (slot_of self.old.count (T.Addr.Address.bits address)) (Some (record { address = address; answer = x }))) }
+    {
         if !in_full(self.count, address, bound) {
             return self.inner.lookup(address, bound);
         }

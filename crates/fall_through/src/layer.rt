@@ -1,5 +1,10 @@
-ghost use Rattle.std.specs.Prelude.{◌≡◌, ◌-◌, ◌≤◌, ◌++◌, length, is_ok, IfOk, MatchResult, SomeIff, nat_le};
+ghost use Rattle.std.specs.Prelude.{◌≡◌, ◌-◌, ◌≤◌, ◌++◌, false, length, is_ok, IfOk, MatchResult, SomeIff, nat_le};
+ghost use Rattle.model.specs.Laws.{Does};
+ghost use Rattle.model.specs.Longest.{answer};
+ghost use Rattle.model.specs.Machine.{on, announce, withdraw, fetch, lookup};
 ghost use Rattle.model.specs.Stack.{fall, fall_view, fall_room};
+ghost use Rattle.table.specs.Meaning.{of_update, of_fetch, of_lookup};
+ghost use Rattle.fall_through.specs.Others.{OtherStays, LowerStays};
 ghost use Rattle.model.proofs.FallLaws.{fall_described, fall_local, fall_roomy, fall_sound};
 
 use crate::planes::{few_enough, together};
@@ -47,18 +52,26 @@ impl<U: Table, L: Table<Addr = U::Addr>> Table for FallThrough<U, L> {
         plane: u16,
         prefix: <U::Addr as Address>::Prefix,
         hop: U::Addr,
-    ) -> Result<(), Refusal> {
+    ) -> Result<(), Refusal>
+        requires { ⟦<FallThrough<U, L> as Table>⟧.valid self.old }
+        ensures valid { ⟦<FallThrough<U, L> as Table>⟧.valid self.new }
+        ensures does { Does ⟦<FallThrough<U, L> as Table>⟧.planes ⟦<FallThrough<U, L> as Table>⟧.view ⟦<FallThrough<U, L> as Table>⟧.room ⟦<FallThrough<U, L> as Table>⟧.stack self.old self.new (on plane (announce (U.Addr.Address.pbits prefix) (U.Addr.Address.bits hop))) (of_update result) }
+        ensures refused { is_ok result ≡ false → self.new ≡ self.old }
+        ensures other { OtherStays (length (U.Table.planes self.old.upper)) plane (self.new.upper ≡ self.old.upper) (self.new.lower ≡ self.old.lower) }
+    {
         match self.lower_plane(plane) {
             None => self.upper.announce(plane, prefix, hop),
             Some(i) => self.lower.announce(i, prefix, hop),
         }
     }
 
-    fn withdraw(
-        &mut self,
-        plane: u16,
-        prefix: <U::Addr as Address>::Prefix,
-    ) -> Result<(), Refusal> {
+    fn withdraw(&mut self, plane: u16, prefix: <U::Addr as Address>::Prefix) -> Result<(), Refusal>
+        requires { ⟦<FallThrough<U, L> as Table>⟧.valid self.old }
+        ensures valid { ⟦<FallThrough<U, L> as Table>⟧.valid self.new }
+        ensures does { Does ⟦<FallThrough<U, L> as Table>⟧.planes ⟦<FallThrough<U, L> as Table>⟧.view ⟦<FallThrough<U, L> as Table>⟧.room ⟦<FallThrough<U, L> as Table>⟧.stack self.old self.new (on plane (withdraw (U.Addr.Address.pbits prefix))) (of_update result) }
+        ensures refused { is_ok result ≡ false → self.new ≡ self.old }
+        ensures other { OtherStays (length (U.Table.planes self.old.upper)) plane (self.new.upper ≡ self.old.upper) (self.new.lower ≡ self.old.lower) }
+    {
         match self.lower_plane(plane) {
             None => self.upper.withdraw(plane, prefix),
             Some(i) => self.lower.withdraw(i, prefix),
@@ -69,7 +82,13 @@ impl<U: Table, L: Table<Addr = U::Addr>> Table for FallThrough<U, L> {
         &mut self,
         plane: u16,
         prefix: <U::Addr as Address>::Prefix,
-    ) -> Result<Option<U::Addr>, Refusal> {
+    ) -> Result<Option<U::Addr>, Refusal>
+        requires { ⟦<FallThrough<U, L> as Table>⟧.valid self.old }
+        ensures valid { ⟦<FallThrough<U, L> as Table>⟧.valid self.new }
+        ensures does { Does ⟦<FallThrough<U, L> as Table>⟧.planes ⟦<FallThrough<U, L> as Table>⟧.view ⟦<FallThrough<U, L> as Table>⟧.room ⟦<FallThrough<U, L> as Table>⟧.stack self.old self.new (on plane (fetch (U.Addr.Address.pbits prefix))) (of_fetch U.Addr.Address.bits result) }
+        ensures refused { is_ok result ≡ false → self.new ≡ self.old }
+        ensures other { OtherStays (length (U.Table.planes self.old.upper)) plane (self.new.upper ≡ self.old.upper) (self.new.lower ≡ self.old.lower) }
+    {
         match self.lower_plane(plane) {
             None => self.upper.fetch(plane, prefix),
             Some(i) => self.lower.fetch(i, prefix),
@@ -77,7 +96,13 @@ impl<U: Table, L: Table<Addr = U::Addr>> Table for FallThrough<U, L> {
     }
 
     // Asks the upper table, and the lower where the upper has none.
-    fn lookup(&mut self, address: U::Addr, bound: u8) -> Result<Option<(u8, U::Addr)>, Refusal> {
+    fn lookup(&mut self, address: U::Addr, bound: u8) -> Result<Option<(u8, U::Addr)>, Refusal>
+        requires { ⟦<FallThrough<U, L> as Table>⟧.valid self.old }
+        ensures valid { ⟦<FallThrough<U, L> as Table>⟧.valid self.new }
+        ensures does { Does ⟦<FallThrough<U, L> as Table>⟧.planes ⟦<FallThrough<U, L> as Table>⟧.view ⟦<FallThrough<U, L> as Table>⟧.room ⟦<FallThrough<U, L> as Table>⟧.stack self.old self.new (lookup (U.Addr.Address.bits address) bound) (of_lookup U.Addr.Address.bits result) }
+        ensures refused { is_ok result ≡ false → self.new ≡ self.old }
+        ensures lower { LowerStays (answer (U.Table.view self.old.upper (U.Table.planes self.old.upper)) (U.Addr.Address.bits address) bound) (self.new.lower ≡ self.old.lower) }
+    {
         match self.upper.lookup(address, bound)? {
             Some(found) => Ok(Some(found)),
             None => self.lower.lookup(address, bound),
