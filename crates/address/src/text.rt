@@ -11,9 +11,8 @@ impl fmt::Display for Group {
     ghost output = { λ x. Some (group x.0) };
 
     fn fmt<W: fmt::Write>(&self, f: &mut fmt::Formatter<W>) -> fmt::Result {
-        let high = self.0 / 256;
-        let low = self.0 % 256;
-        write!(f, "{high:02x}{low:02x}")
+        let group = self.0;
+        write!(f, "{group:04x}")
     }
 }
 

@@ -3,7 +3,7 @@ ghost use Rattle.trie.specs.Nodes.{at, child as next};
 ghost use Rattle.trie.specs.Trie.{Trie, Leaf};
 ghost use Rattle.trie.specs.Changes.{swapped, Moved, Parent, Loose, Pruned, Unlinked};
 
-use trie::links::{child, linked};
+use trie::links::{child, child_without_jump, linked};
 use trie::node::Node;
 
 // The link from a slot on one side.
@@ -25,7 +25,7 @@ fn parent(ns: &[Node], slot: usize) -> Edge
     loop {
         let node = &ns[above];
         let side = key.bit_at(node.prefix.len);
-        let next = usize::from(child(node, side).unwrap());
+        let next = usize::from(child_without_jump(node, side).unwrap());
         if next == slot {
             return Edge { slot: above, side };
         }

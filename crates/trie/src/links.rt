@@ -5,8 +5,20 @@ use crate::node::Node;
 use bits::front::Front;
 use bits::halves::Halves;
 
-// The link to the node beneath on the side of that bit, if there is one.
+// The link to the node beneath on the side of that bit, if there is one. By a jump for each side, which the processor foretells where a
+// prefix is sought again, so that it need not wait for the bit.
 pub fn child(node: &Node, side: bool) -> Option<u16>
+    ensures { result ≡ link side node.now }
+{
+    if side {
+        Some(node.right?)
+    } else {
+        Some(node.left?)
+    }
+}
+
+// The same without a jump: the bits of the addresses that are looked up cannot be foretold.
+pub fn child_without_jump(node: &Node, side: bool) -> Option<u16>
     ensures { result ≡ link side node.now }
 {
     let link = if side { &node.right } else { &node.left };

@@ -5,7 +5,7 @@ ghost use Rattle.trie.specs.Nodes.{at, key as prefix_of, holds, unlinked as fres
 ghost use Rattle.trie.specs.Trie.{Trie, Compressed};
 ghost use Rattle.trie.specs.Search.{Found, Located, Stepped, First, Best};
 
-use crate::links::child;
+use crate::links::{child, child_without_jump};
 use crate::node::Node;
 use bits::front::Front;
 use bits::halves::Halves;
@@ -92,7 +92,7 @@ fn below(ns: &[Node], slot: usize, sought: Front) -> Option<usize>
     if len >= sought.len {
         return None;
     }
-    child(node, sought.bits.bit_at(len)).map(usize::from)
+    child_without_jump(node, sought.bits.bit_at(len)).map(usize::from)
 }
 
 // The slot of the first route on the way of the bits sought from that slot on, if there is one: branches are passed unseen.

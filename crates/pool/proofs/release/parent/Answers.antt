@@ -15,15 +15,15 @@ pub unwrap-requires : goal.unwrap-requires
 unwrap-requires c =
     let there = down _ _ c.requires.trie c.loop-key.above c.args.slot (child c.bit_at-side.result (at c.args.ns.now c.loop-key.above)) c.bit_at-side.result c.loop-key.invariant.0 c.requires.slot c.loop-key.invariant.1 c.loop-key.invariant.2
     c.bit_at-side.ensures refl in
-    is_link _ (λ z. lt_irrefl 65535 (omega (arith, there.slot, ap slot_of (sym c.child.ensures) ∙ z, c.requires.trie.few)))
+    is_link _ (λ z. lt_irrefl 65535 (omega (arith, there.slot, ap slot_of (sym c.child_without_jump.ensures) ∙ z, c.requires.trie.few)))
 
 pub returns-then-next-slot : goal.returns-then-next-slot
-returns-then-next-slot c = record { slot = c.loop-key.invariant.0; link = ap slot_of (sym c.child.ensures ∙ c.unwrap.ensures) ∙ sym c.from-next.ensures ∙ c.if-next-slot.true }
+returns-then-next-slot c = record { slot = c.loop-key.invariant.0; link = ap slot_of (sym c.child_without_jump.ensures ∙ c.unwrap.ensures) ∙ sym c.from-next.ensures ∙ c.if-next-slot.true }
 
 step : (c : goal.Else-next-slot) → Step (at c.args.ns.now) (length c.args.ns.now) c.loop-key.above c.args.slot c.from-next.result
 step c =
     down _ _ c.requires.trie c.loop-key.above c.args.slot c.from-next.result c.bit_at-side.result c.loop-key.invariant.0 c.requires.slot c.loop-key.invariant.1 c.loop-key.invariant.2
-    c.bit_at-side.ensures (c.from-next.ensures ∙ ap slot_of (sym c.unwrap.ensures ∙ c.child.ensures))
+    c.bit_at-side.ensures (c.from-next.ensures ∙ ap slot_of (sym c.unwrap.ensures ∙ c.child_without_jump.ensures))
 
 pub loop-key-preserved : goal.loop-key-preserved
 loop-key-preserved c = ((step c).slot, c.if-next-slot.false, (step c).under)
